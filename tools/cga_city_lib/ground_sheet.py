@@ -104,7 +104,7 @@ def length(sheet: Sheet, line: Sequence[Point]) -> float:
 
 def below(sheet: Sheet, ground: Ground) -> None:
     """What lies under the town."""
-    sheet.add('<g id="ground">')
+    sheet.layer("ground")
     areas(sheet, ground, sheet.box)
     plots = "".join(path_of(sheet, [plot.ring, *plot.holes]) for plot in ground.plots)
     sheet.add(f'<path d="{plots}" fill="{PLOT}" fill-rule="evenodd"/>')
@@ -115,20 +115,20 @@ def below(sheet: Sheet, ground: Ground) -> None:
 
 
 def borders(sheet: Sheet, ground: Ground) -> None:
-    sheet.add(f'<g id="borders" {BORDER}>')
+    sheet.layer("borders", BORDER)
     for plot in ground.plots:
         rings = path_of(sheet, [plot.ring, *plot.holes])
         sheet.add(
-            f'<path id="border.{clean(plot.lot)}" d="{rings}"><title>{clean(plot.name or plot.lot)}</title></path>'
+            f'<path id="{sheet.name}border.{clean(plot.lot)}" d="{rings}"><title>{clean(plot.name or plot.lot)}</title></path>'
         )
     sheet.add("</g>")
 
 
 def fronts(sheet: Sheet, ground: Ground) -> None:
     """The front line of each lot, which is the side of its rectangle that looks to the street."""
-    sheet.add('<g id="fronts" fill="none" stroke="#2456a6" stroke-width=".3">')
+    sheet.layer("fronts", 'fill="none" stroke="#2456a6" stroke-width=".3"')
     for plot in ground.plots:
-        sheet.add(f'<path id="front.{clean(plot.lot)}" d="{sheet.path(plot.front, False)}"/>')
+        sheet.add(f'<path id="{sheet.name}front.{clean(plot.lot)}" d="{sheet.path(plot.front, False)}"/>')
     sheet.add("</g>")
 
 

@@ -7,8 +7,8 @@ from .obj import Solid, Town
 
 LOT = "ground"
 MARGIN = 15.0  # so far beyond the parcels the ground is drawn
-HEIGHTS = {"border": 0.14, "street": 0.03, "rail": 0.02, "pavement": 0.015}
-LOWEST = 0.005
+HEIGHTS = {"border": 0.14, "street": 0.08, "rail": 0.06, "pavement": 0.05}
+LOWEST = 0.03
 KERB, BORDER = 0.3, 0.12
 Corner = Tuple[float, float, float]
 Flat = Tuple[str, float, List[List[Point]]]  # symbol, height, faces

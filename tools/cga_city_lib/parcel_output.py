@@ -32,7 +32,8 @@ def town(word: Any, rules: Rules, found: List[Group], say: Callable[[str], None]
     for sentence in sentences(found, word.reach) if rules.asks else ():
         say(sentence)
     with written(word.town, encoding="latin-1", newline="\n") as file:
-        faults = write_town(file, word.program, rules, found)
+        (reports,) = write_town(file, word.program, rules, found)
+    faults = [line for lines in reports for line in lines[1:]]
     if faults:
         say(
             f"{len(faults)} shapes came to nothing, the first: {faults[0][2:]}; tools/lint tells why, of the script that --angle writes"

@@ -2,7 +2,6 @@
 import math
 from collections import namedtuple
 
-from .instances import Reals
 
 SIDES = {
     "front": (1, 0),
@@ -10,6 +9,7 @@ SIDES = {
     "back": (-1, 0),
     "left": (0, 1),
 }  # what goes to the right as the side is seen
+INSIDE = " inside"  # in the place of a symbol: of a wall that is seen from inside
 HAIR = 1e-7  # a plane that goes along faces lies just in front of them
 
 # what is drawn of a face: the corners as (u, v, d), the symbol, and the way that it looks
@@ -103,17 +103,3 @@ def seen(faces, symbol, depth, is_closed):
             yield Face(kept, symbol, up)
         elif up[2] < -1e-6 and not is_closed:  # all go round one way, so that none makes a hole in another
             yield Face(kept[::-1], symbol, tuple(-part for part in up))
-
-
-def project(town, view, depth, lots=None):
-    """The faces that are seen behind the plane, and what it cuts, of a town's instances."""
-    faces, cuts, reals = [], [], Reals()
-    depth = depth + HAIR
-    for lot, instances in town.items():
-        for symbol, form, (x, y, z) in instances if lots is None or lot in lots else ():
-            a, b, c = reals[x], reals[y], reals[z]
-            points = [view((a + p[0], b + p[1], c + p[2])) for p in form.points()]
-            corners = [[points[at] for at in face] for face in form.faces]
-            faces += seen(corners, symbol, depth, len(corners) > 3)
-            cuts += cuts_of(corners, symbol, depth)
-    return faces, cuts

@@ -4,6 +4,7 @@ from xml.sax.saxutils import escape
 
 from .call import Refused
 from .colours import colour_of
+from .projection import INSIDE
 
 SCALES = (20, 50, 100, 200, 500, 1000, 2000, 5000, 10000, 20000, 50000)
 PAPER = (390.0, 250.0)  # the room for a drawing on A3
@@ -12,6 +13,9 @@ LARGEST = 5000.0
 CELLS = 2000
 THIN, SEAM, THICK = 0.08, 0.2, 0.35  # the seam closes what lies between two fills that touch
 INK = "#1a1a1a"
+INSIDES = (236, 233, 226)
+INKSCAPE = 'xmlns:inkscape="http://www.inkscape.org/namespaces/inkscape"'
+LAYER = 'inkscape:groupmode="layer"'
 
 
 def clean(text):
@@ -37,7 +41,9 @@ def short(number):
 
 
 class Sheet:
-    """Lines of SVG; `place` says where a point of the town comes on paper."""
+    """Lines of SVG; `place` says where a point of the town comes on paper. `name` stands in front of all ids."""
+
+    name = ""
 
     def __init__(self, box, scale, title):
         self.box, self.mm, self.lines = box, 1000 / scale, []
@@ -63,34 +69,41 @@ class Sheet:
         self.lines.append(line)
 
     def faces(self, faces, outlines):
-        """What is behind the plane: a fill of each face, and its thin lines; faces of one colour that follow each other are one path."""
-        self.add(f'<g stroke-width="{THIN}" stroke-linejoin="round" stroke-linecap="round">')
-        colour, fills, lines = None, [], []
+        """What is behind the plane: a fill of each face, and its thin lines; faces of one look that follow each other are one path."""
+        self.layer("seen", f'stroke-width="{THIN}" stroke-linejoin="round" stroke-linecap="round"')
+        look, fills, lines = None, [], []
         for face, outline in zip(faces, outlines):
-            if tint(face) != colour:
-                self.flush(colour, fills, lines)
-                colour, fills, lines = tint(face), [], []
+            if (tint(face), face.symbol) != look:
+                self.flush(look, fills, lines)
+                look, fills, lines = (tint(face), face.symbol), [], []
             fills.append(self.path(face.corners, True))
             lines += [self.path(segment, False) for segment in outline]
-        self.flush(colour, fills, lines)
+        self.flush(look, fills, lines)
         self.add("</g>")
 
-    def flush(self, colour, fills, lines):
+    def layer(self, name, more=""):
+        """Begins a layer, which programs for SVG list by its name."""
+        self.add(f'<g id="{self.name}{clean(name)}" {LAYER} inkscape:label="{clean(name)}" {more}>')
+
+    def flush(self, look, fills, lines):
+        kind = f' class="{clean(look[1].strip())}"' if look and look[1].strip() else ""
         if fills:
-            self.add(f'<path d="{"".join(fills)}" fill="{colour}" stroke="{colour}" stroke-width="{SEAM}"/>')
+            self.add(f'<path{kind} d="{"".join(fills)}" fill="{look[0]}" stroke="{look[0]}" stroke-width="{SEAM}"/>')
         if lines:
-            self.add(f'<path d="{"".join(lines)}" fill="none" stroke="#555"/>')
+            self.add(f'<path{kind} d="{"".join(lines)}" fill="none" stroke="#555"/>')
 
     def cuts(self, cuts):
-        """What the plane cuts: areas filled, and all of it with thick lines."""
-        self.add(f'<g stroke="{INK}" stroke-width="{THICK}" stroke-linejoin="round" stroke-linecap="round">')
+        """What the plane cuts: areas filled, and all of it with thick lines; a group for each symbol."""
+        by_symbol = {}
         for cut in cuts:
-            fill = (
-                "#{:02x}{:02x}{:02x}".format(*(part * 3 // 4 for part in colour_of(cut.symbol)))
-                if cut.is_area
-                else "none"
-            )
-            self.add(f'<path d="{self.path(cut.points, cut.is_area)}" fill="{fill}"/>')
+            by_symbol.setdefault(cut.symbol, []).append(cut)
+        self.layer("cut", f'stroke="{INK}" stroke-width="{THICK}" stroke-linejoin="round" stroke-linecap="round"')
+        for symbol, some in by_symbol.items():
+            fill = "#{:02x}{:02x}{:02x}".format(*(part * 3 // 4 for part in colour_of(symbol)))
+            self.add(f'<g id="{self.name}cut.{clean(symbol)}" class="{clean(symbol)}">')
+            for cut in some:
+                self.add(f'<path d="{self.path(cut.points, cut.is_area)}" fill="{fill if cut.is_area else "none"}"/>')
+            self.add("</g>")
         self.add("</g>")
 
     def ground(self, height):
@@ -106,7 +119,7 @@ class Sheet:
             f"{clean(text)}</text>"
         )
 
-    def mark(self, a, b):
+    def mark(self, a, b, names="AB"):
         """Where a section goes: a line of dashes with its ends, and to which side it looks."""
         (x, y), (u, v) = self.place(a), self.place(b)
         size = math.hypot(u - x, v - y) or 1
@@ -115,7 +128,7 @@ class Sheet:
         self.add(
             f'<path d="M{short(x)},{short(y)} {short(u)},{short(v)}" stroke="#b00" stroke-width=".35" stroke-dasharray="6 1.5 1 1.5"/>'
         )
-        for at, name in ((x, y), "A"), ((u, v), "B"):
+        for at, name in ((x, y), names[0]), ((u, v), names[1]):
             tip = at[0] + 5 * look[0], at[1] + 5 * look[1]
             wings = [(at[0] + sign * 1.6 * right, at[1] + sign * 1.6 * down) for sign in (-1, 1)]
             self.add(f'<path d="M{" ".join(",".join(map(short, p)) for p in (tip, *wings))}Z" fill="#b00"/>')
@@ -156,7 +169,7 @@ class Sheet:
         size = f'width="{short(self.width)}mm" height="{short(self.height)}mm" viewBox="0 0 {short(self.width)} {short(self.height)}"'
         return "\n".join(
             [
-                f'<svg xmlns="http://www.w3.org/2000/svg" {size} font-family="Helvetica, Arial, sans-serif" fill="{INK}">',
+                f'<svg xmlns="http://www.w3.org/2000/svg" {INKSCAPE} {size} font-family="Helvetica, Arial, sans-serif" fill="{INK}">',
                 f"<title>{clean(self.title)}</title>",
                 '<rect width="100%" height="100%" fill="#fff"/>',
                 *self.lines,
@@ -168,6 +181,8 @@ class Sheet:
 
 def tint(face):
     """The colour of a face behind the plane: paler than its symbol's, and by how it looks to a light from the upper left."""
+    if face.symbol == INSIDE:
+        return "#{:02x}{:02x}{:02x}".format(*INSIDES)
     light = 0.80 + 0.20 * max(0.0, (-0.45 * face.normal[0] - 0.45 * face.normal[1] + 0.77 * face.normal[2]))
     return "#{:02x}{:02x}{:02x}".format(
         *(min(255, int((0.55 * part + 0.45 * 255) * light)) for part in colour_of(face.symbol))

@@ -18,11 +18,10 @@ HELP = {
 class Run:
     """One run of the program, in which each group begins with an empty town."""
 
-    def __init__(self, program, rules, groups):
-        self.parts = [
-            ["city", "end", *script_of(rules, group.lots), "faults", "model" if rules.is_dressed else "print"]
-            for group in groups
-        ]
+    def __init__(self, program, rules, groups, reports):
+        last = [*reports, "model" if rules.is_dressed else "print"]
+        self.parts = [["city", "end", *script_of(rules, group.lots), *last] for group in groups]
+        self.number = len(last)
         self.groups, self.rules = groups, rules
         self.process = subprocess.Popen([program], stdin=subprocess.PIPE, stdout=subprocess.PIPE)
         threading.Thread(target=self.feed, daemon=True).start()
@@ -42,7 +41,7 @@ class Run:
         return reply
 
     def towns(self):
-        """Of each group its faults and the lines of its town."""
+        """Of each group the lines of its reports and those of its town."""
         self.check(self.reply(), "", None)
         for group, part in counted([*zip(self.groups, self.parts)], "angles"):
             lots = {lot.name: lot for lot in group.lots}
@@ -54,7 +53,8 @@ class Run:
                     " ".join(command.words),
                     lots.get("".join(command.words[1:2])) if command.words[:1] == ["lot"] else None,
                 )
-            yield group, answers[-2][1:], answers[-1][1:]
+            *reports, town = answers[-self.number :]
+            yield group, reports, town[1:]
 
     def check(self, reply, line, lot):
         if is_refused(reply):
@@ -83,15 +83,16 @@ def moved(lines, angle, shift):
             yield line + "\n"
 
 
-def write_town(file, program, rules, groups):
-    """Writes the town, and gives its faults."""
-    run, faults, shift = Run(program, rules, groups), [], 0
+def write_town(file, program, rules, groups, reports=("faults",)):
+    """Writes the town, and gives for each report its lines of all groups."""
+    run, found, shift = Run(program, rules, groups, reports), [[] for _ in reports], 0
     try:
         file.write("# cga_city obj\n")
         for group, some, lines in run.towns():
             file.writelines(moved(lines, group.angle, shift))
             shift += sum(line.startswith("v ") for line in lines)
-            faults += some
+            for one, told in zip(found, some):
+                one.append(told)
     finally:
         run.close()
-    return faults
+    return found

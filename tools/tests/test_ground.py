@@ -1,6 +1,8 @@
 """The ground of a map beside a town: what is drawn, where, and how wide. Expected numbers are by hand."""
+import base64
 import re
 import unittest
+import zlib
 from xml.etree import ElementTree
 
 from in_process import called
@@ -154,7 +156,8 @@ class Drawn(Grounds):
         self.street_town()
         page = self.top / "page.html"
         self.assertEqual(called("view", self.town, page, "--ground", self.ground)[0], 0)
-        self.assertIn('"street"', page.read_text())
+        packed = re.search(r'"packed": "([^"]+)"', page.read_text()).group(1)
+        self.assertIn(b'"street"', zlib.decompress(base64.b64decode(packed)))
         status, _, said = called("picture", self.town, self.top / "p.png", "60x40", "--ground", self.ground)
         self.assertEqual((status, said), (0, ""))
 

@@ -1,0 +1,47 @@
+"""The words by which tools/parcels and tools/sheet are told how a map's parcels become lots."""
+from decimal import Decimal, InvalidOperation
+from typing import Tuple
+
+from .call import Words, number_in
+from .fitting import FITS
+from .lot_list import COMPASS
+from .numerals import numeral
+from .program import LAUNCHER
+from .reference_system import METRES
+
+
+def pair(word: str) -> Tuple[str, str]:
+    name, _, text = word.partition("=")
+    if not name.isidentifier() or numeral(text) is None:
+        raise ValueError
+    return name, numeral(text)
+
+
+def point(word: str) -> Tuple[Decimal, Decimal]:
+    try:
+        east, north = map(Decimal, word.split(","))
+    except InvalidOperation:
+        raise ValueError from None
+    if not (east.is_finite() and north.is_finite()):
+        raise ValueError
+    return east, north
+
+
+def add_map_words(known: Words) -> None:
+    known.add_argument("map")
+    known.add_argument("rules")
+    known.add_argument("--list")
+    known.add_argument("--ground")
+    known.add_argument("--front", choices=COMPASS)
+    known.add_argument("--fit", choices=FITS, default="around")
+    known.add_argument("--symbol")
+    known.add_argument("--default", action="append", type=pair, default=[])
+    known.add_argument("--units", choices=tuple(METRES))
+    known.add_argument("--swap", action="store_true")
+    known.add_argument("--strict", action="store_true")
+    known.add_argument("--name", default="name")
+    known.add_argument("--origin", type=point)
+    known.add_argument("--decimals", type=number_in(0, 6, int), default=2)
+    known.add_argument("--snap", type=number_in(0, 100), default=0.02)
+    known.add_argument("--tolerance", type=number_in(0, 45), default=0.1)
+    known.add_argument("--program", default=str(LAUNCHER))
