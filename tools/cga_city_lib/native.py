@@ -25,7 +25,10 @@ RATTLE = """#!/bin/sh
 case " $* " in *" --start no function "*) exit 0 ;; esac
 exec '{rattle}' "$@"
 """
-CHECK = re.compile(r'(define internal void @"rattle-llvm-checks::\w+"\(i8 %a0\)[^{]*){.*?\n}\n', re.DOTALL)
+CHECK = re.compile(r'\n  call void @"rattle-llvm-checks::\w+"\(i8 %\w+\)')
+FILLED = re.compile(
+    r"(\n  (%\w+) = alloca [^\n]*)\n  call void @llvm\.memset\.p0\.i64\(ptr \2, i8 -86, i64 \d+, i1 false\)"
+)
 TRAP = re.compile(r"\n *call void @llvm\.trap\(\).*")
 ATTRIBUTES = {
     " sanitize_address": "",
@@ -39,9 +42,9 @@ Tell = Callable[[str], None]
 
 
 def without_checks(text: str) -> str:
-    """The program without its checks and the watch over memory, in which no end by a trap is come to."""
-    text = CHECK.sub(lambda found: found[1] + "{\n  ret void\n}\n", text)
-    text = TRAP.sub("", text)
+    """The program without its checks and the watch over memory, in which no end by a trap is come to, and no room is filled
+    before its first use."""
+    text = TRAP.sub("", FILLED.sub(r"\1", CHECK.sub("", text)))
     for watched, plain in ATTRIBUTES.items():
         text = text.replace(watched, plain)
     return text
