@@ -47,9 +47,13 @@ def given(path: str) -> Given:
     return Given(path, data, kind == "script")
 
 
+def is_binary(data: bytes) -> bool:
+    return b"\0" in data[:HEAD] or any(data.startswith(mark) for mark in MARKS)
+
+
 def kind_of(data: bytes) -> Optional[str]:
     """`script`, `obj`, or nothing where it is neither."""
-    if b"\0" in data[:HEAD] or any(data.startswith(mark) for mark in MARKS):
+    if is_binary(data):
         return None
     line = first_line(data)
     if line.split(maxsplit=1)[:1] and line.split()[0] in OF_OBJ:

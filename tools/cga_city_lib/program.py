@@ -65,6 +65,18 @@ def tell(name, why):
         TOLD.add(name)
 
 
+def asking(program):
+    """A function that gives the replies to lines, none where the program fails."""
+    from .replies import replies
+    from .script import text_of
+
+    def ask(lines):
+        status, out = run(program, text_of(lines))
+        return list(replies(out)) if status == 0 else []
+
+    return ask
+
+
 def run(program, script):
     """The status of a run of the script, and its replies' lines."""
     import subprocess

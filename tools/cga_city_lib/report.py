@@ -8,8 +8,10 @@ from .causes import CAUSES, CODES, help_for
 from .follows import Follows
 from .notes import by_symbol, notes
 from .replies import is_refused
+from .retried import Retried
 from .script import rule_of, tokens
 from .standing import block, standing
+from .strangers_text import shown
 
 REFUSED = re.compile(r"# refused (\w+) ?(.*)")
 PLACE = re.compile(r"at (?:(\d+):)?(\d+)")
@@ -17,7 +19,15 @@ WIDEST = 300
 
 
 def readable(text):
-    return text.encode("latin-1").decode("utf-8", "replace")
+    """A script's text as letters; what a terminal would take for more than a letter is written as its code."""
+    return shown(text.encode("latin-1").decode("utf-8", "replace"))
+
+
+def place(lines, command, reply):
+    """Where a script's line refuses a reply's command: its line and column, the cause, and the words that it tells."""
+    cause, rest = REFUSED.fullmatch(reply[0]).groups()
+    at, column, words = Report("", lines, [], []).place(command, cause, rest)
+    return at, column, cause, words
 
 
 def shortened(path):
@@ -25,15 +35,30 @@ def shortened(path):
 
 
 class Report:
-    """A script's lines, and its commands with their replies; `ways` has for a shape that came to nothing the symbols above it."""
+    """A script's lines, and its commands with their replies; `ways` has for a shape that came to nothing the symbols above it.
+    `ask` replies to other lines: by it all refused lines of a block are told, and not the first alone."""
 
-    def __init__(self, path, lines, commands, replies, ways=None):
+    def __init__(self, path, lines, commands, replies, ways=None, ask=None):
         self.path, self.lines, self.ways = path, lines, ways or {}
         self.answers = list(zip(commands, replies))
+        self.retried = Retried(ask or (lambda _: []), place, lines, self.answers if ask else [])
+        self.cause_of = Follows(lines, self.answers).cause_of
+        self.look_again()
         self.refused = [
             (command, *REFUSED.fullmatch(reply[0]).groups()) for command, reply in self.answers if is_refused(reply)
         ]
-        self.cause_of = Follows(lines, self.answers).cause_of
+
+    def look_again(self):
+        """Of the commands behind refused blocks counts what they are replied to once those are mended."""
+        first = next(iter(self.retried.told), None)
+        for number, (reply, (command, was)) in enumerate(zip(self.retried.final, self.answers)):
+            if command.first in self.retried.told or not is_refused(was):
+                continue
+            if is_refused(reply) and reply != was:
+                self.answers[number] = command, reply
+                self.cause_of.pop(command.first, None)
+            elif not is_refused(reply):
+                self.cause_of.setdefault(command.first, first)
 
     def place(self, command, cause, rest):
         """The line and the column that a refusal means, and the words that it tells; no column is 0."""
@@ -66,10 +91,13 @@ class Report:
     def refusal(self, command, cause, rest):
         """The lines that tell a refusal: its place and a sentence, the line, and a mark under the place."""
         line, column, words = self.place(command, cause, rest)
+        yield from self.sentence(line, column, cause, words, line != command.first)
+
+    def sentence(self, line, column, cause, words, is_inside):
         text = self.lines[line]
         told = [
             CAUSES.get(cause, cause).format(*words, "?", "?"),
-            advice(cause, words, Place(text, column, line != command.first)),
+            advice(cause, words, Place(text, column, is_inside)),
         ]
         if told[1] and cause in ("Unexpected", "BadByte"):
             told[0] = ""
@@ -87,12 +115,25 @@ class Report:
         for command, cause, rest in self.refused:
             if command.first in self.cause_of:
                 continue
-            yield from self.refusal(command, cause, rest)
+            if command.first in self.retried.told:
+                yield from self.block(self.retried.told[command.first])
+            else:
+                yield from self.refusal(command, cause, rest)
             follow = following[command.first]
             if follow[1:]:
                 yield f"    {len(follow)} further refusals follow from it, from line {follow[0]} on"
             elif follow:
                 yield f"    a further refusal follows from it, in line {follow[0]}"
+
+    def block(self, told):
+        """All refusals of a block."""
+        for refusal in told:
+            yield from self.sentence(*refusal, refusal.cause != "OpenBlock")
+            follow = self.retried.follow[refusal.line]
+            if follow:
+                yield f"    {follow} further line{'s' * (follow > 1)} of the block {'are' if follow > 1 else 'is'} refused for want of it"
+        if self.retried.is_late:
+            yield "    the block may have further refused lines behind this one: mend it, and ask again"
 
     def way(self, lot, path, symbol, rules):
         """The rules above a shape, from its lot on; each that may have made the next one."""
@@ -127,6 +168,8 @@ class Report:
         told = [] if self.refused else notes(now)
         for at, text in told:
             yield f"{self.path}:{at + 1}:1: note: {text}"
-        follow = f" ({many} of them only follow)" if (many := len(self.cause_of)) else ""
+        further = sum(self.retried.follow.values())
+        many = sum(map(len, self.retried.told.values())) - len(self.retried.told) + further + len(self.refused)
+        follow = f" ({only} of them only follow)" if (only := len(self.cause_of) + further) else ""
         noted = f", {len(told)} note{'s' * (len(told) > 1)}" if told else ""
-        yield f"{self.path}: {len(self.refused)} refused{follow}, {len(faults)} shapes came to nothing{noted}"
+        yield f"{self.path}: {many} refused{follow}, {len(faults)} shapes came to nothing{noted}"

@@ -14,6 +14,7 @@ TESTS = Path(__file__).resolve().parent
 TOP = TESTS.parent.parent
 sys.path[:0] = [str(TESTS), str(TESTS.parent)]
 
+from defined import by_definition  # noqa: E402
 from in_process import called  # noqa: E402
 from cga_city_lib.obj import Town  # noqa: E402
 from cga_city_lib.replies import replies  # noqa: E402
@@ -201,9 +202,8 @@ class Lint(unittest.TestCase):
     def test_what_it_says(self):
         for script in sorted((TESTS / "lint").glob("*.cga")):
             with self.subTest(script.name):
-                status, said, _ = call(
-                    "lint", "--program", TESTS / "stored", f"lint/{script.name}", stored=script.with_suffix(".replies")
-                )
+                with by_definition():
+                    status, said, _ = call("lint", f"lint/{script.name}")
                 self.assertEqual(said, script.with_suffix(".said").read_text(encoding="utf-8"))
                 self.assertEqual(status, 0 if ": 0 refused, 0 shapes came to nothing" in said else 1)
 
