@@ -1,26 +1,28 @@
 """Where the points of a town come on a grid of cells, and which triangle is the nearest for each cell."""
 import math
 from array import array
+from typing import Iterable, List, Sequence, Tuple
 
 from .progress import counted
 
+Point = Tuple[float, float, float]
 NOTHING = -1
 
 
-def dot(a, b):
+def dot(a: Point, b: Point) -> float:
     return a[0] * b[0] + a[1] * b[1] + a[2] * b[2]
 
 
-def cross(a, b):
+def cross(a: Point, b: Point) -> Point:
     return (a[1] * b[2] - a[2] * b[1], a[2] * b[0] - a[0] * b[2], a[0] * b[1] - a[1] * b[0])
 
 
-def unit(a):
+def unit(a: Point) -> Point:
     size = math.sqrt(dot(a, a)) or 1.0
     return (a[0] / size, a[1] / size, a[2] / size)
 
 
-def normal(a, b, c):
+def normal(a: Point, b: Point, c: Point) -> Point:
     """Of the face that goes on through these three corners."""
     return unit(cross(tuple(q - p for p, q in zip(a, b)), tuple(q - p for p, q in zip(a, c))))
 
@@ -28,7 +30,7 @@ def normal(a, b, c):
 class Eye:
     """Where points come on a grid of cells: right and down in cells, and nearer with a greater third number."""
 
-    def __init__(self, direction, points, width, height, filled):
+    def __init__(self, direction: Point, points: Sequence[Point], width: int, height: int, filled: float):
         self.near = unit(direction)
         self.right = unit(cross((0.0, 1.0, 0.0), self.near))
         self.up = cross(self.near, self.right)
@@ -39,14 +41,14 @@ class Eye:
         self.top = height / 2 + self.scale * (max(upright) + min(upright)) / 2
         self.width, self.height = width, height
 
-    def see(self, point):
+    def see(self, point: Point) -> Point:
         return (
             self.left + self.scale * dot(point, self.right),
             self.top - self.scale * dot(point, self.up),
             self.scale * dot(point, self.near),
         )
 
-    def onto(self, other):
+    def onto(self, other: "Eye") -> List[Tuple[float, float, float, float]]:
         """How a cell (x, y, z) comes to one of another eye: for each axis there the factors of x, y and z, and what is added."""
         rows, zoom = [], other.scale / self.scale
         for axis, base in (
@@ -58,7 +60,7 @@ class Eye:
             rows.append((x, y, z, base - x * self.left - y * self.top))
         return rows
 
-    def draw(self, triangles):
+    def draw(self, triangles: Sequence[Sequence[Point]]) -> Tuple["array[int]", List[float]]:
         """The nearest triangle for each cell, and how near it is."""
         seen, near = array("l", [NOTHING]) * (self.width * self.height), [-1e30] * (self.width * self.height)
         for number, corners in enumerate(counted(triangles, "faces")):
@@ -66,7 +68,7 @@ class Eye:
         return seen, near
 
 
-def fill(number, corners, seen, near, width, height):
+def fill(number: int, corners: Iterable[Point], seen: "array[int]", near: List[float], width: int, height: int) -> None:
     (x0, y0, z0), (x1, y1, z1), (x2, y2, z2) = corners
     if y2 - y0 < 1e-9:
         return

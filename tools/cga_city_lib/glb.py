@@ -2,6 +2,7 @@
 import json
 import struct
 from array import array
+from typing import Any, Dict, List, Optional, Set
 
 FLOAT, INDEX = 5126, 5125  # of 32 bits, as arrays of kind f and I hold them
 VERTICES, INDICES = 34962, 34963
@@ -15,14 +16,15 @@ class Glb:
         self.lists = {
             name: [] for name in "nodes meshes materials textures images samplers accessors bufferViews".split()
         }
-        self.required, self.used = set(), set()
+        self.required: Set[str] = set()
+        self.used: Set[str] = set()
 
-    def add(self, name, entry):
+    def add(self, name: str, entry: Dict[str, Any]) -> int:
         """Puts an entry at a list's end, and tells its number there."""
         self.lists[name].append(entry)
         return len(self.lists[name]) - 1
 
-    def view(self, data, **target):
+    def view(self, data: bytes, **target: int) -> int:
         self.bytes += bytes(-len(self.bytes) % 4)
         number = self.add(
             "bufferViews", {"buffer": 0, "byteOffset": len(self.bytes), "byteLength": len(data), **target}
@@ -30,7 +32,7 @@ class Glb:
         self.bytes += data
         return number
 
-    def accessor(self, values, form, target=None, has_bounds=False):
+    def accessor(self, values: "array[Any]", form: str, target: Optional[int] = None, has_bounds: bool = False) -> int:
         """The numbers of an array as a list of this form, little-endian on every machine."""
         view = self.view(little(values), **({"target": target} if target else {}))
         width = SIZES[form]
@@ -46,7 +48,7 @@ class Glb:
             )
         return self.add("accessors", entry)
 
-    def text(self, roots):
+    def text(self, roots: List[int]) -> bytes:
         told = {
             "asset": {"version": "2.0", "generator": "cga_city"},
             "scene": 0,
@@ -60,7 +62,7 @@ class Glb:
                 told[name] = sorted(names)
         return json.dumps(told, separators=(",", ":")).encode()
 
-    def file(self, roots):
+    def file(self, roots: List[int]) -> bytes:
         """The bytes of the file, whose scene has these nodes."""
         self.bytes += bytes(-len(self.bytes) % 4)
         told = self.text(roots)
@@ -68,11 +70,11 @@ class Glb:
         return struct.pack("<4sII", b"glTF", 2, 12 + len(chunks)) + chunks
 
 
-def chunk(kind, data):
+def chunk(kind: bytes, data: bytes) -> bytes:
     return struct.pack("<I4s", len(data), kind) + data
 
 
-def little(values):
+def little(values: "array[Any]") -> bytes:
     if struct.pack("=I", 1) != struct.pack("<I", 1):
         values = array(values.typecode, values)
         values.byteswap()

@@ -1,18 +1,21 @@
 """The lines of faces that are drawn: edges between faces of one symbol in one plane, and within them, aren't."""
 from collections import defaultdict
+from typing import Any, Dict, Iterable, Iterator, List, Sequence, Tuple
 
 from .overlaps import Plane
 
+Span = Tuple[float, float]
+Vector = Tuple[float, ...]
 SHIFT = 0.00317  # so that lengths of round decimals don't lie where rounding goes either way
 SLACK = 0.001  # shorter pieces of edges are no lines
 
 
-def rounded(*numbers):
+def rounded(*numbers: float) -> Vector:
     """What is within a hundredth counts as one: in a turned town corners of one wall aren't quite in one plane."""
     return tuple(round(number + SHIFT, 2) for number in numbers)
 
 
-def line_of(p, q):
+def line_of(p: Vector, q: Vector) -> Tuple[Vector, Vector, Vector, float, float]:
     """The line through two points: a key that both directions share, and where on it the points lie."""
     along = tuple(b - a for a, b in zip(p, q))
     size = sum(part * part for part in along) ** 0.5
@@ -24,7 +27,7 @@ def line_of(p, q):
     return rounded(*along, *foot), along, foot, start, end
 
 
-def edges(faces):
+def edges(faces: Sequence[Any]) -> Tuple[Dict[tuple, Tuple[List[Span], List[Span]]], List[tuple], Dict[tuple, Plane]]:
     """Of each line of a plane the pieces that faces of one symbol have on either side, each edge with its face, and the planes."""
     pieces, found, planes = defaultdict(lambda: ([], [])), [], {}
     for number, face in enumerate(faces):
@@ -41,7 +44,7 @@ def edges(faces):
     return pieces, found, planes
 
 
-def without(piece, others):
+def without(piece: Span, others: Iterable[Span]) -> Iterator[Span]:
     """The parts of a piece that no other covers."""
     low, high = piece
     for start, end in sorted(others):
@@ -56,7 +59,7 @@ def without(piece, others):
         yield low, high
 
 
-def outlines(faces):
+def outlines(faces: Sequence[Any]) -> List[List[Tuple[Vector, Vector]]]:
     """For each face the segments of its edges that are drawn."""
     pieces, found, planes = edges(faces)
     lines = [[] for _ in faces]

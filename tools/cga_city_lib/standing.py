@@ -1,5 +1,6 @@
 """What stands at a script's end, each with the place of its line: rules, attributes and lots."""
 from collections import namedtuple
+from typing import Any, Dict, Iterable, List, Tuple
 
 from .script import EDITS, rule_in
 
@@ -8,16 +9,16 @@ Standing = namedtuple("Standing", "rules attributes lots")
 NOTHING = Standing({}, {}, {})
 
 
-def block(command, lines):
+def block(command: Any, lines: List[str]) -> range:
     """The places of the lines between a block's first and last one."""
     return range(command.first + 1, min(command.last, len(lines)))
 
 
-def without(table, key):
+def without(table: Dict[Any, Any], key: Any) -> Dict[Any, Any]:
     return {name: kept for name, kept in table.items() if name != key}
 
 
-def in_block(command, lines, tables):
+def in_block(command: Any, lines: List[str], tables: Standing) -> Standing:
     """Puts what the lines of a block say into the tables."""
     for at in block(command, lines):
         words, rule = lines[at].split("#")[0].split(), rule_in(lines[at])
@@ -30,7 +31,7 @@ def in_block(command, lines, tables):
     return tables
 
 
-def edited(now, command, lines):
+def edited(now: Standing, command: Any, lines: List[str]) -> Standing:
     """What stands after an accepted edit."""
     head, name = command.words[0], command.words[1] if command.words[1:] else ""
     if head in ("rules", "city"):
@@ -47,7 +48,7 @@ def edited(now, command, lines):
     return now
 
 
-def standing(lines, answers):
+def standing(lines: List[str], answers: Iterable[Tuple[Any, List[str]]]) -> Standing:
     """What stands behind the last of the commands, each with its reply."""
     past, future, now = [], [], NOTHING
     for command, reply in answers:

@@ -3,10 +3,14 @@ bytes tell them well. Each colour is a mesh part with a material."""
 import json
 import struct
 from array import array
+from typing import Any, Dict, List, Optional, Sequence, Tuple
 
 from .colours import colour_of
 from .glb import INDICES, VERTICES, Glb
 from .materials import linear
+
+
+Colour = Tuple[int, ...]
 
 
 class Part:
@@ -15,7 +19,7 @@ class Part:
     def __init__(self):
         self.places, self.triangles = array("f"), array("I")
 
-    def add(self, points, faces, first, origin):
+    def add(self, points: List[float], faces: Sequence[bytes], first: int, origin: Sequence[float]) -> None:
         """Points as three numbers each, and faces that name them from `first` on."""
         begin = len(self.places) // 3 - first
         for axis in range(3):
@@ -26,7 +30,7 @@ class Part:
             for at in range(1, len(corners) - 1):
                 self.triangles.extend((corners[0], corners[at], corners[at + 1]))
 
-    def primitive(self, glb, colour):
+    def primitive(self, glb: Glb, colour: Colour) -> Dict[str, Any]:
         material = glb.add(
             "materials",
             {
@@ -44,7 +48,7 @@ class Part:
         }
 
 
-def parts_of(town, origin):
+def parts_of(town: bytes, origin: Sequence[float]) -> Dict[Colour, Part]:
     """The parts of an OBJ text without its first line, by colour."""
     parts, colours, number = {}, {}, 1
     for solid in (b"\n" + town).split(b"\ng ")[1:]:
@@ -58,7 +62,7 @@ def parts_of(town, origin):
     return parts
 
 
-def glb(town, origin):
+def glb(town: bytes, origin: Sequence[float]) -> bytes:
     """The bytes of the file."""
     made = Glb()
     primitives = [part.primitive(made, colour) for colour, part in parts_of(town, origin).items()]
@@ -67,7 +71,7 @@ def glb(town, origin):
     )
 
 
-def ends_of(data):
+def ends_of(data: bytes) -> Optional[Tuple[List[float], List[float]]]:
     """The box of what is drawn, from the corner that places are told from; None where nothing is."""
     (size,) = struct.unpack_from("<I", data, 12)
     scene = json.loads(data[20 : 20 + size])
