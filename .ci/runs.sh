@@ -94,6 +94,20 @@ expect "64 MiB and a byte" 5 "$work/refused" "cga_city: script too long"
 status=$?
 expect "64 MiB of script in 64 MiB of memory" 5 "$work/refused" "cga_city: script too long"
 
+# the script that was seen to take the most stack: a rule that asks is dropped below two chains of 255 shapes
+cat >"$work/script" <<'END'
+rules
+1: a : Scope.occ("noparent") == "none" -> Repeat("X", 1) { a }
+2: a -> Repeat("X", 1) { a }
+end
+lot p 1 0 0 2 1 a
+drop 1
+END
+printf '# ok\n# ok\n# ok\n' >"$work/wanted"
+(ulimit -s 1024; exec env -i crates/cga_main/out/cga_main) <"$work/script" >"$work/out" 2>"$work/err"
+status=$?
+expect "two chains and a dropped rule in 1 MiB of stack" 0 "$work/wanted" ""
+
 # as many lots as there may be, and one more
 {
   printf 'quiet\nrules\n1: a -> NIL\nend\n'

@@ -1,33 +1,33 @@
-//! What no clause says of the adapters: each call is one call of the reader or the writer, and its error is told.
-use cga_outside::{Failed, Sink, Source, StdSink, StdSource};
+//! What no clause says of the adapters: each call is one call of the reader or the writer, and its error is told; a write that
+//! a signal interrupts is tried again. What waits in a buffer is written in its order, whatever fails.
+use cga_outside::{BufferedSink, Failed, Sink, Source, StdSink, StdSource};
 use std::io;
 use std::io::{ErrorKind, Read, Write};
 
-// Counts its calls. Where it is to fail, the next one fails as an interrupted call does, which may be tried again.
+// Counts its calls. Where it is to fail, the next one fails with this error.
 #[derive(Drop)]
 struct Flaky {
     reads: u64,
     writes: u64,
     flushes: u64,
-    fails: bool,
+    fails: Option<ErrorKind>,
 }
 
 impl Flaky {
-    fn new() -> Flaky {
+    fn new(kind: ErrorKind) -> Flaky {
         Flaky {
             reads: 0,
             writes: 0,
             flushes: 0,
-            fails: true,
+            fails: Some(kind),
         }
     }
 
     fn answer(&mut self) -> io::Result<()> {
-        if self.fails {
-            self.fails = false;
-            return Err(io::Error::from(ErrorKind::Interrupted));
+        match self.fails.take() {
+            Some(kind) => Err(io::Error::from(kind)),
+            None => Ok(()),
         }
-        Ok(())
     }
 }
 
@@ -54,7 +54,7 @@ impl Write for Flaky {
 
 #[test]
 fn a_read_is_one_read_of_the_reader(rt: HostRuntime) {
-    let mut reader = Flaky::new();
+    let mut reader = Flaky::new(ErrorKind::Interrupted);
     let mut source = StdSource::new(&mut reader);
     let mut buffer = [0u8; 4];
     let failed = source.read(&mut buffer);
@@ -66,7 +66,7 @@ fn a_read_is_one_read_of_the_reader(rt: HostRuntime) {
 
 #[test]
 fn a_write_is_one_write_of_the_writer(rt: HostRuntime) {
-    let mut writer = Flaky::new();
+    let mut writer = Flaky::new(ErrorKind::BrokenPipe);
     let mut sink = StdSink::new(&mut writer);
     let failed = sink.write(b"ab");
     let written = sink.write(b"ab");
@@ -78,11 +78,50 @@ fn a_write_is_one_write_of_the_writer(rt: HostRuntime) {
 
 #[test]
 fn a_flush_is_one_flush_of_the_writer(rt: HostRuntime) {
-    let mut writer = Flaky::new();
+    let mut writer = Flaky::new(ErrorKind::Interrupted);
     let mut sink = StdSink::new(&mut writer);
     let failed = sink.flush();
     let flushed = sink.flush();
     assert_eq!(rt; failed, Err(Failed));
     assert_eq!(rt; flushed, Ok(()));
     assert_eq!(rt; writer.flushes, 2);
+}
+
+#[test]
+fn an_interrupted_write_is_tried_again(rt: HostRuntime) {
+    let mut writer = Flaky::new(ErrorKind::Interrupted);
+    let mut sink = StdSink::new(&mut writer);
+    let written = sink.write(b"ab");
+    assert_eq!(rt; written, Ok(1));
+    assert_eq!(rt; writer.writes, 2);
+}
+
+#[test]
+fn what_a_failed_flush_leaves_goes_on_waiting(rt: HostRuntime) {
+    let mut writer = Flaky::new(ErrorKind::BrokenPipe);
+    let mut sink = BufferedSink::new(rt.alloc(), 4, StdSink::new(&mut writer)).expect(
+        &rt, "memory",
+    );
+    let written = sink.write(b"abc");
+    let failed = sink.flush();
+    let flushed = sink.flush();
+    drop(sink);
+    assert_eq!(rt; written, Ok(3));
+    assert_eq!(rt; failed, Err(Failed));
+    assert_eq!(rt; flushed, Ok(()));
+    assert_eq!(rt; writer.writes, 4);
+    assert_eq!(rt; writer.flushes, 1);
+}
+
+#[test]
+fn what_waits_is_written_at_the_end(rt: HostRuntime) {
+    let mut writer = Flaky::new(ErrorKind::Interrupted);
+    let mut sink = BufferedSink::new(rt.alloc(), 4, StdSink::new(&mut writer)).expect(
+        &rt, "memory",
+    );
+    let written = sink.write(b"abc");
+    drop(sink);
+    assert_eq!(rt; written, Ok(3));
+    assert_eq!(rt; writer.writes, 4);
+    assert_eq!(rt; writer.flushes, 0);
 }

@@ -14,17 +14,19 @@ ghost use Rattle.cga_top.specs.Outside.{outside_of};
 ghost use Rattle.cga_words.specs.Exits.{line_in, refusal_line, refusal_of};
 
 use cga_expand::Expansions;
-use cga_fraction::Tests;
-use cga_outside::{Sink, Source, StdSink, StdSource};
+use cga_fraction::{NoMemory, Tests};
+use cga_outside::{BufferedSink, Sink, Source, StdSink, StdSource};
 use cga_top::{Status, run_with_hulls};
 use cga_words::{Exit, ProgramName, end, exit_of, given_words};
 use std::alloc::Global;
 use std::env::Args;
-use std::io::BufWriter;
 use std::marker::Brand;
 use std::process::ExitCode;
 use std::sync::ledger::{Blank, Ledger};
 use std::{env, io};
+
+// The most bytes that wait before they are written.
+const ROOM: usize = 8192;
 
 // The whole program but for the system's own part: reads the words, replies to the script, tells of its lots, and says how
 // it ended. Where the system doesn't give the words, nothing is read, written or expanded. Without the runtime it makes
@@ -79,10 +81,10 @@ fn with_counters<S: Source, K: Sink, E: Ledger, T: Ledger>(
 
 fn main(mut rt: HostRuntime) -> ExitCode {
     let found = env::args(&rt);
-    let exit = match BufWriter::new(rt.alloc(), rt.stdout()) {
-        Ok(writer) => {
+    let exit = match BufferedSink::new(rt.alloc(), ROOM, StdSink::new(rt.stdout())) {
+        Ok(sink) => {
             let mut script = StdSource::new(rt.reader());
-            let mut out = StdSink::new(writer);
+            let mut out = sink;
             with_counters::<_, _, Brand, Brand>(
                 &mut rt,
                 found,
@@ -92,7 +94,7 @@ fn main(mut rt: HostRuntime) -> ExitCode {
                 Blank::new(1),
             )
         }
-        Err(_) => exit_of(ProgramName::Hulls, Status::NoMemory),
+        Err(NoMemory) => exit_of(ProgramName::Hulls, Status::NoMemory),
     };
     end(&rt, exit)
 }

@@ -28,17 +28,19 @@ ghost use Rattle.clap.specs.Words.{fault_of};
 
 use crate::script::run_live;
 use cga_expand::Expansions;
-use cga_fraction::Tests;
-use cga_outside::{Sink, Source, StdSink, StdSource};
+use cga_fraction::{NoMemory, Tests};
+use cga_outside::{BufferedSink, Sink, Source, StdSink, StdSource};
 use cga_top::Status;
 use cga_words::{Exit, ProgramName, WordsFault, end, exit_of, given_words, read_none};
 use std::alloc::Global;
 use std::env::Args;
-use std::io::BufWriter;
 use std::marker::Brand;
 use std::process::ExitCode;
 use std::sync::ledger::{Blank, Ledger};
 use std::{env, io};
+
+// The most bytes that wait before they are written.
+const ROOM: usize = 8192;
 
 // Replies to the script, and tells what its edits change, where there is no word.
 fn run<S: Source, K: Sink, E: Ledger, T: Ledger>(
@@ -141,10 +143,10 @@ fn with_counters<S: Source, K: Sink, E: Ledger, T: Ledger>(
 
 fn main(mut rt: HostRuntime) -> ExitCode {
     let found = env::args(&rt);
-    let exit = match BufWriter::new(rt.alloc(), rt.stdout()) {
-        Ok(writer) => {
+    let exit = match BufferedSink::new(rt.alloc(), ROOM, StdSink::new(rt.stdout())) {
+        Ok(sink) => {
             let mut script = StdSource::new(rt.reader());
-            let mut out = StdSink::new(writer);
+            let mut out = sink;
             with_counters::<_, _, Brand, Brand>(
                 &mut rt,
                 found,
@@ -154,7 +156,7 @@ fn main(mut rt: HostRuntime) -> ExitCode {
                 Blank::new(1),
             )
         }
-        Err(_) => exit_of(ProgramName::Live, Status::NoMemory),
+        Err(NoMemory) => exit_of(ProgramName::Live, Status::NoMemory),
     };
     end(&rt, exit)
 }

@@ -1,5 +1,5 @@
 //! What is outside of the program: a source of bytes and a sink for them, each with a count of its failures, once in
-//! memory and once over std's readers and writers.
+//! memory and once over std's readers and writers, and a buffer before a sink.
 //!
 //! It must not know lines, scripts or statuses.
 //!
@@ -7,6 +7,7 @@
 //! loop of the caller's.
 #![tactic(auto)]
 
+mod buffered_sink;
 mod failed;
 mod list_sink;
 mod memory_sink;
@@ -17,6 +18,7 @@ mod std_sink;
 mod std_source;
 mod tape;
 
+pub use buffered_sink::BufferedSink;
 pub use failed::Failed;
 pub use list_sink::ListSink;
 pub use memory_sink::MemorySink;

@@ -6,16 +6,37 @@ ghost use Rattle.cga_outside.specs.Causes.{HasCause, flushed_after, risen};
 use crate::failed::Failed;
 use crate::sink::Sink;
 use crate::tape::Tape;
-use std::io::Write;
+use std::io::{ErrorKind, Write};
 
 /// A sink over one of std's writers. It tells the bytes that the writer took since, also where the writer tells nothing,
-/// as standard output does. Any error of the writer counts as a fault, and so does a write that takes nothing.
+/// as standard output does. A write that a signal interrupts took nothing, and is tried again. Any other error of the writer
+/// counts as a fault, and so does a write that takes nothing.
 #[derive(Drop)]
 pub struct StdSink<W: Write> {
     writer: W,
     flushed: bool,
     faults: u64,
     tape: Tape,
+}
+
+// Writes some of the piece, again where a signal interrupts it.
+fn written<W: Write>(writer: &mut W, piece: &[u8]) -> Result<usize, Failed>
+    ensures within { WritesAtMost result piece.now }
+    ensures some { IfOk result (λ n. 0 < n) }
+    ensures contents { WriteAppends (W.contents writer.old) (W.contents writer.new) result piece.now }
+{
+    for _ in 0..u64::MAX {
+        match writer.write(piece) {
+            Ok(0) => return Err(Failed),
+            Ok(count) => return Ok(count),
+            Err(error) => {
+                if error.kind() != ErrorKind::Interrupted {
+                    return Err(Failed);
+                }
+            }
+        }
+    }
+    Err(Failed)
 }
 
 impl<W: Write> StdSink<W> {
@@ -57,12 +78,12 @@ impl<W: Write> Sink for StdSink<W> {
             return Ok(0);
         }
         self.flushed = false;
-        match self.writer.write(piece) {
-            Ok(count) if count > 0 => {
+        match written(&mut self.writer, piece) {
+            Ok(count) => {
                 self.tape = Tape::with(&self.tape, &piece[..count]);
                 Ok(count)
             }
-            _ => {
+            Err(Failed) => {
                 self.faults = self.faults.saturating_add(1);
                 Err(Failed)
             }

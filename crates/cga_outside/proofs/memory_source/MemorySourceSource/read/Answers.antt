@@ -1,4 +1,4 @@
-use Rattle.std.proofs.Common.{◌≡◌, ◌+◌, ◌<◌, length, take, drop, arith, rules}
+use Rattle.std.proofs.Common.{◌≡◌, ◌+◌, length, take, drop, rules}
 use Rattle.cga_outside.proofs.Given.{given_on, left_on, none_on}
 use Rattle.cga_outside.proofs.memory_source.MemorySourceSource.read.Goals.{else-count-eq0-via-then-count-eq0+else-not-is_empty, else-count-eq0-via-else-count-eq0}
 use Rattle.cga_outside.proofs.memory_source.MemorySourceSource.read.Goals as goal
