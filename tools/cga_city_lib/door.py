@@ -25,12 +25,12 @@ KEPT: "Dict[str, Opened]" = {}  # towns of scripts that a process keeps, by thei
 
 
 class Opened:
-    """A town, and the file that it came from: its instances lot by lot, and of a script the path of each."""
+    """A town, and the file that it came from: its instances lot by lot, and of a script an id of each."""
 
     def __init__(self, given: Given, lots: Lots, places: int, town: Optional[Town] = None) -> None:
         self.given, self.lots, self.places, self.read = given, lots, places, town
         self.is_exact = given.is_script and town is None  # the numbers are those of the derivation, and not rounded
-        self.paths: Optional[Dict[str, List[str]]] = None
+        self.ids: Optional[Dict[str, List[str]]] = None
 
     @property
     def town(self) -> Town:
@@ -112,14 +112,14 @@ def scripted(found: Given, words: argparse.Namespace, is_ordered: bool) -> Opene
     told = told_by(program, script, is_ordered)
     tell(script, told.answers)
     opened = Opened(found, from_told(told), PLACES)
-    opened.paths = paths_of(opened.lots, told.paths)
+    opened.ids = ids_of(opened.lots, told.ids)
     return opened
 
 
-def paths_of(lots: Lots, paths: Optional[List[str]]) -> Optional[Dict[str, List[str]]]:
-    if paths is None:
+def ids_of(lots: Lots, ids: Optional[List[str]]) -> Optional[Dict[str, List[str]]]:
+    if ids is None:
         return None
-    rest = iter(paths)
+    rest = iter(ids)
     return {lot: list(islice(rest, len(instances))) for lot, instances in lots.items()}
 
 

@@ -46,7 +46,7 @@ def ids(lots, steps):
 
 def ids_of(found):
     """The same of a town that was opened, and whether they stay over edits."""
-    if found.paths is not None:
-        return {lot: [lot + path for path in paths] for lot, paths in found.paths.items()}, True
+    if found.ids is not None:
+        return found.ids, True
     steps = steps_in(found.text())
     return ids(found.lots, steps), steps is not None

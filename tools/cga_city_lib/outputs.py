@@ -10,6 +10,7 @@ from .call import WrongWord
 from .door import KEPT, Opened
 from .files import write
 from .given import Given
+from .guarded import INTERRUPTED
 from .instances import PLACES
 from .kept_instances import KeptInstances
 from .program import LAUNCHER
@@ -66,6 +67,8 @@ def made(output: Output, script: str) -> bool:
         status = end.code
     finally:
         sys.argv, sys.stdout = kept
+    if status == INTERRUPTED:
+        raise KeyboardInterrupt
     out.flush()
     if status == 0 and output.is_printed:
         write(Path(output.path), out.buffer.getvalue())

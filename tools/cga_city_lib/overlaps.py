@@ -1,16 +1,19 @@
 """Which lines lie within a face: those of one symbol in one plane may lie over each other."""
-from bisect import bisect_right
-
+MANY = 64  # cells of a face, from which on it is looked at for each line
 SLACK = 0.001  # how far within a face the middle of a line has to be
 
 
 def depth_in(ring, point):
     """How far within a convex ring a point lies; below 0 outside of it."""
-    found = float("inf")
-    for (x0, y0), (x1, y1) in zip(ring, ring[1:] + ring[:1]):
-        size = ((x1 - x0) ** 2 + (y1 - y0) ** 2) ** 0.5
+    found, (x, y), (x0, y0) = float("inf"), point, ring[-1]
+    for x1, y1 in ring:
+        wide, high = x1 - x0, y1 - y0
+        size = (wide * wide + high * high) ** 0.5
         if size > 1e-9:
-            found = min(found, ((x1 - x0) * (point[1] - y0) - (y1 - y0) * (point[0] - x0)) / size)
+            depth = (wide * (y - y0) - high * (x - x0)) / size
+            if depth < found:
+                found = depth
+        x0, y0 = x1, y1
     return found
 
 
@@ -19,12 +22,12 @@ def area(ring):
 
 
 class Plane:
-    """The faces of one symbol in one plane, seen along the axis that is nearest to its normal."""
+    """The faces of one symbol in one plane, seen along the axis that is nearest to its normal, by the cells of a grid."""
 
     def __init__(self, normal):
         steepest = max(range(3), key=lambda k: abs(normal[k]))
         self.axes = [k for k in range(3) if k != steepest]
-        self.rings, self.starts, self.widest = [], [], 0.0
+        self.rings, self.cell, self.cells, self.large = [], 1.0, {}, []
 
     def flat(self, point):
         return tuple(point[k] for k in self.axes)
@@ -34,19 +37,30 @@ class Plane:
         self.rings.append(ring if area(ring) >= 0 else ring[::-1])
 
     def sort(self):
-        """To be called between the last face and the first line."""
-        self.rings.sort(key=lambda ring: min(ring))
-        self.starts = [min(ring)[0] for ring in self.rings]
-        self.widest = max(max(ring)[0] - min(ring)[0] for ring in self.rings)
+        """To be called between the last face and the first line. A cell is as large as a face is in the middle."""
+        boxes = [(*map(min, zip(*ring)), *map(max, zip(*ring))) for ring in self.rings]
+        sizes = sorted(max(far_x - x, far_y - y) for x, y, far_x, far_y in boxes)
+        self.cell = max(sizes[len(sizes) // 2], SLACK)
+        for ring, (x, y, far_x, far_y) in zip(self.rings, boxes):
+            columns = range(self.number(x), self.number(far_x) + 1)
+            rows = range(self.number(y), self.number(far_y) + 1)
+            if len(columns) * len(rows) > MANY:
+                self.large.append(ring)
+                continue
+            for column in columns:
+                for row in rows:
+                    self.cells.setdefault((column, row), []).append(ring)
+
+    def number(self, at):
+        return int(at // self.cell)
 
     def covers(self, p, q):
         """Whether a face has this line within it, not along its own edge."""
         a, b = self.flat(p), self.flat(q)
         middle = tuple((one + other) / 2 for one, other in zip(a, b))
-        for at in range(bisect_right(self.starts, middle[0]) - 1, -1, -1):
-            if self.starts[at] < middle[0] - self.widest:
-                return False
-            ring = self.rings[at]
-            if depth_in(ring, middle) > SLACK and min(depth_in(ring, a), depth_in(ring, b)) > -SLACK:
-                return True
-        return False
+        some = self.cells.get((self.number(middle[0]), self.number(middle[1])), [])
+        return any(
+            depth_in(ring, middle) > SLACK and min(depth_in(ring, a), depth_in(ring, b)) > -SLACK
+            for rings in (some, self.large)
+            for ring in rings
+        )

@@ -1,7 +1,7 @@
 """A script's town at its end, as a program tells it: the lots in order, and a line for each instance, in the order of `print`
 where that is wanted."""
 from collections import Counter
-from typing import List, NamedTuple, Optional, Sequence, Tuple
+from typing import List, NamedTuple, Optional, Sequence
 
 from .call import Refused
 from .live import Live
@@ -10,7 +10,7 @@ from .replies import is_refused
 from .script import Command, commands, is_open, is_version, lines_of
 from .session import OPEN
 from .standing import Standing, standing
-from .traced import children_in
+from .traced import Traced
 
 PRINTING = (["quiet"], ["print"], ["model"])
 
@@ -35,11 +35,11 @@ class Script(NamedTuple):
 
 
 class Told(NamedTuple):
-    """The names of the lots in order, a line for each instance, its path where that was asked for, and the replies."""
+    """The names of the lots in order, a line for each instance, its id where that was asked for, and the replies."""
 
     lots: List[str]
     drawn: List[str]
-    paths: Optional[List[str]]
+    ids: Optional[List[str]]
     answers: List[List[str]]
 
 
@@ -121,16 +121,11 @@ def derived_at_once(program: str, script: Script, answers: Sequence[List[str]], 
 def in_order(lots: List[str], teller: Teller, answers: List[List[str]]) -> Told:
     """The lines by the places of their lots and their paths. A derivation tells instances in the order of its steps."""
     (trace,) = teller.ask(["trace"], 1)
-    shapes, drawn = list(children_in(trace[1:])), teller.drawn()
-    if [lot for lot, _ in shapes] != [line.partition(" ")[0] for line in drawn]:
+    traced, drawn = Traced(trace[1:]), teller.drawn()
+    found = list(traced.in_order(lots))
+    if len(found) != len(drawn) or not all(drawn[at].startswith(f"{lot} ") for lot, at in found):
         return Told(lots, sorted(drawn), None, answers)
-    number = {lot: at for at, lot in enumerate(lots)}
-    found = sorted((number[lot], key(path), path, line) for (lot, path), line in zip(shapes, drawn))
-    return Told(lots, [line for *_, line in found], [path for *_, path, _ in found], answers)
-
-
-def key(path: str) -> Tuple[int, ...]:
-    return tuple(map(int, path.split("/")[1:]))
+    return Told(lots, [drawn[at] for _, at in found], [traced.ids[at] for _, at in found], answers)
 
 
 def check_settings(script: Script, answers: Sequence[List[str]]) -> None:

@@ -6,6 +6,7 @@ building are seen from inside where it is cut open: they are one plain surface t
 import math
 from typing import Any, Dict, Iterator, List, Optional, Sequence, Tuple
 
+from .forms import Form
 from .instances import Lots, Reals
 from .projection import HAIR, INSIDE, Cut, Face, behind, cuts_of, met, normal, seen
 
@@ -55,6 +56,36 @@ def looks_away(faces: Sequence[Sequence[Corner]]) -> bool:
     return outwards(faces)[2] < -1e-6
 
 
+class InView:
+    """A form in a view, from its first corner on: its faces, those of them that look to the eye, and how deep it reaches. The
+    view is linear, so that a solid's corners are these, moved."""
+
+    def __init__(self, form: Form, symbol: str, view: Any) -> None:
+        points = [view(point) for point in form.points()]
+        self.faces = [[points[at] for at in face] for face in form.faces]
+        self.is_closed = len(self.faces) > 3
+        self.seen = list(seen(self.faces, symbol, math.inf, self.is_closed))
+        depths = [point[2] for point in points]
+        self.low, self.high = min(depths), max(depths)
+
+    def parts(self, symbol: str, at: Corner, depth: float) -> Tuple[List[Face], List[Cut]]:
+        """What is seen and what is cut of a solid whose first corner stands there."""
+        if self.high + at[2] <= depth:
+            return [Face(moved(face.corners, at), symbol, face.normal) for face in self.seen], []
+        if self.low + at[2] > depth:
+            return [], []
+        corners = self.corners(at)
+        return list(seen(corners, symbol, depth, self.is_closed)), cuts_of(corners, symbol, depth)
+
+    def corners(self, at: Corner) -> List[List[Corner]]:
+        return [moved(face, at) for face in self.faces]
+
+
+def moved(corners: Sequence[Corner], by: Corner) -> List[Corner]:
+    u, v, d = by
+    return [(a + u, b + v, c + d) for a, b, c in corners]
+
+
 def project(
     lots: Lots, view: Any, depth: float, chosen: Optional[List[str]] = None, walls: Optional[Dict[str, float]] = None
 ) -> Tuple[List[Face], List[Cut]]:
@@ -62,17 +93,16 @@ def project(
     symbol of walls."""
     faces: List[Face] = []
     cuts: List[Cut] = []
-    reals = Reals()
+    reals, known = Reals(), {}  # type: Reals, Dict[Tuple[Form, str], InView]
     depth = depth + HAIR
     for lot, instances in lots.items():
         for symbol, form, (x, y, z) in instances if chosen is None or lot in chosen else ():
-            a, b, c = reals[x], reals[y], reals[z]
-            points = [view((a + p[0], b + p[1], c + p[2])) for p in form.points()]
-            corners = [[points[at] for at in face] for face in form.faces]
-            if walls and symbol in walls and len(corners) in (1, 6):
-                some, cut = of_wall(corners, symbol, depth, walls[symbol])
+            own = known.get((form, symbol)) or known.setdefault((form, symbol), InView(form, symbol, view))
+            at = view((reals[x], reals[y], reals[z]))
+            if walls and symbol in walls and len(own.faces) in (1, 6):
+                some, cut = of_wall(own.corners(at), symbol, depth, walls[symbol])
             else:
-                some, cut = seen(corners, symbol, depth, len(corners) > 3), cuts_of(corners, symbol, depth)
+                some, cut = own.parts(symbol, at, depth)
             faces += some
             cuts += cut
     return faces, cuts

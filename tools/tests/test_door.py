@@ -22,7 +22,7 @@ from cga_city_lib.forms import form_of  # noqa: E402
 from cga_city_lib.numerals import fixed  # noqa: E402
 from cga_city_lib.obj import Town  # noqa: E402
 from cga_city_lib.program import is_here  # noqa: E402
-from cga_city_lib.traced import children_in  # noqa: E402
+from cga_city_lib.traced import Traced  # noqa: E402
 
 TELLER = TESTS / "live_stand_in"
 GLB = TOP / "examples" / "pipeline" / "glb"
@@ -124,8 +124,10 @@ class Forms(unittest.TestCase):
 
 class Traces(unittest.TestCase):
     def test_solids_are_children_that_were_not_expanded(self):
-        steps = ["# step a / house - - 3", "# step a /1 roof - - 1", "# step b / house - - FlatScope"]
-        self.assertEqual(list(children_in(steps)), [("a", "/0"), ("a", "/2"), ("a", "/1/0")])
+        steps = ["# step b / house - - FlatScope", "# step a / house - - 3", "# step a /1 roof - - 1"]
+        traced = Traced(steps)
+        self.assertEqual(traced.ids, ["a/0", "a/2", "a/1/0"])
+        self.assertEqual(list(traced.in_order(["b", "a"])), [("a", 0), ("a", 2), ("a", 1)])
 
 
 class ByStandIn(Given):
