@@ -6,6 +6,7 @@
 //! What callers get wrong: where nothing changed there is no text at all, and no line that says so.
 #![tactic(auto)]
 
+pub mod laws;
 mod text;
 mod words;
 
