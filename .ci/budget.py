@@ -113,6 +113,10 @@ def main() -> int:
     if not shutil.which("valgrind"):
         print("budget.py: valgrind isn't installed (Debian: valgrind): no instructions are counted")
         return 0
+    if not (os.path.isfile(given.program) and os.access(given.program, os.X_OK)):
+        sys.exit(
+            f"budget.py: {given.program} is no program that can be run; ./cga_city --prove builds crates/cga_main/out/cga_main"
+        )
     took = all_counted(os.path.abspath(given.program))
     if given.store:
         store(took, "unproved" if given.unproved else "proved")
