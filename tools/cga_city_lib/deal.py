@@ -1,16 +1,20 @@
 """Deals the lots of a region to jobs by place: each job has the lots of a square of a quadtree."""
 from collections import defaultdict, namedtuple
+from typing import Any, Dict, Iterable, Iterator, List, Sequence, Set, Tuple
 
 from .apart import Sets, touching
 from .call import Refused
 from .program import MOST_LOTS
 from .quadtree import Quadtree
+from .region import Region
+
+Pair = Tuple[int, int]  # two lots by their places
 
 # places of lots: those that the job is for, and the neighbours that it derives with them
 Share = namedtuple("Share", "own ring square")
 
 
-def by_place(grounds, groups, most):
+def by_place(grounds: Tuple[int, Sequence[Any]], groups: List[List[int]], most: int) -> Iterator[Share]:
     """Groups of lots in squares of at most so many lots, or of one group, each with its places in the script's order."""
     one, boxes = grounds
     points = [(min(boxes[at][0] for at in group) // one, min(boxes[at][2] for at in group) // one) for group in groups]
@@ -18,12 +22,12 @@ def by_place(grounds, groups, most):
         yield Share(sorted(at for item in items for at in groups[item]), [], square)
 
 
-def singly(region, options):
+def singly(region: Region, options: Any) -> Iterator[Share]:
     """Where no rule asks, each lot by itself."""
     return by_place(region.grounds(), [[at] for at in range(len(region.lots))], options.most)
 
 
-def districts(region, options, together):
+def districts(region: Region, options: Any, together: Iterable[Pair]) -> List[List[int]]:
     """Lots whose grounds touch, or that a check has put together, stay in one job."""
     sets = Sets(len(region.lots))
     for one, other in [*touching(region.grounds(options.reach)[1]), *together]:
@@ -31,7 +35,7 @@ def districts(region, options, together):
     return list(sets.members().values())
 
 
-def whole_districts(region, options, together):
+def whole_districts(region: Region, options: Any, together: Iterable[Pair]) -> Tuple[int, Iterator[Share]]:
     groups = districts(region, options, together)
     largest = max(groups, key=len)
     if len(largest) > MOST_LOTS:
@@ -42,11 +46,11 @@ def whole_districts(region, options, together):
     return len(groups), by_place(region.grounds(), groups, options.most)
 
 
-def name(region, places):
+def name(region: Region, places: Sequence[int]) -> str:
     return region.lots[places[0]].split()[1]
 
 
-def neighbours(region, options, seen):
+def neighbours(region: Region, options: Any, seen: Iterable[Pair]) -> Dict[int, Set[int]]:
     """Of each lot those whose grounds touch its own, or that see it from afar."""
     near = defaultdict(set)
     for one, other in [*touching(region.grounds(options.reach)[1]), *seen]:
@@ -55,7 +59,7 @@ def neighbours(region, options, seen):
     return near
 
 
-def ring_of(own, near, rings, more):
+def ring_of(own: Sequence[int], near: Dict[int, Set[int]], rings: int, more: Dict[int, int]) -> List[int]:
     """The lots that are at most so many steps from their own, more from some."""
     left = {at: more.get(at, rings) for at in own}  # the steps that may still be taken from a lot
     todo = list(own)
@@ -68,7 +72,9 @@ def ring_of(own, near, rings, more):
     return sorted(left.keys() - set(own))
 
 
-def with_rings(region, options, together, seen, more):
+def with_rings(
+    region: Region, options: Any, together: Iterable[Pair], seen: Iterable[Pair], more: Dict[int, int]
+) -> Iterator[Share]:
     """Squares with their neighbours; what a check has put together stays in one job."""
     sets = Sets(len(region.lots))
     for one, other in together:
@@ -85,7 +91,7 @@ def with_rings(region, options, together, seen, more):
         yield share._replace(ring=ring)
 
 
-def coarser(shares, most):
+def coarser(shares: Sequence[Share], most: int) -> Iterator[Share]:
     """Shares of one square put together, as far as they have at most so many lots: the tiles of a coarser level."""
     tree = Quadtree([share.square[:2] for share in shares], [len(share.own) for share in shares], min(most, MOST_LOTS))
     for square, items in tree.leaves():

@@ -1,10 +1,12 @@
 """Which refusals only follow from an earlier one: a lot whose symbol stands in a refused block, and the like."""
 import re
+from typing import Any, List, Optional, Sequence, Tuple
 
 from .replies import is_refused
 from .script import EDITS, rule_of
 from .standing import block
 
+Answered = Tuple[Any, List[str]]  # a command with its reply
 NEEDED = {
     "NoSymbol": "symbol",
     "NoRule": "rule",
@@ -19,7 +21,7 @@ IN_RULES = ("UnknownSymbol", "UnknownName")
 OPENS = re.compile(r"\W*(rules|city|asset|judge)\b", re.IGNORECASE | re.ASCII)
 
 
-def said_by(command, lines):
+def said_by(command: Any, lines: List[str]) -> List[Tuple[str, str]]:
     """What a command's lines would have declared, each as a kind and a name."""
     found = []
     for at in [command.first, *(block(command, lines) if command.is_block else [])]:
@@ -31,7 +33,7 @@ def said_by(command, lines):
     return found
 
 
-def is_end(command):
+def is_end(command: Any) -> bool:
     return command.words == ["end"]
 
 
@@ -39,7 +41,7 @@ class Follows:
     """Goes through a script's commands and their replies. `cause_of` has for each refused command that follows the one that it
     follows, both by the place of their first line."""
 
-    def __init__(self, lines, answers):
+    def __init__(self, lines: List[str], answers: Sequence[Answered]):
         self.lines, self.cause_of, self.missing = lines, {}, {}
         self.first = None  # the first refused edit, as long as no edit was accepted
         self.is_new = True
@@ -50,14 +52,14 @@ class Follows:
             elif reply[0] == "# ok":
                 self.accepted(command)
 
-    def accepted(self, command):
+    def accepted(self, command: Any) -> None:
         self.is_new = self.is_new and command.words[0] not in EDITS
         if command.words[:1] in (["rules"], ["city"]):
             self.missing.clear()
         for key in said_by(command, self.lines):
             self.missing.pop(key, None)
 
-    def refusal(self, command, words, rest):
+    def refusal(self, command: Any, words: List[str], rest: Sequence[Answered]) -> None:
         cause = self.cause(command, words)
         if cause is None:
             cause = command.first
@@ -71,7 +73,7 @@ class Follows:
         if is_end(command):
             self.open = None
 
-    def cause(self, command, words):
+    def cause(self, command: Any, words: List[str]) -> Optional[int]:
         """The earlier command that this one follows, if it does; the words begin with the cause's name."""
         if self.open is not None:
             return self.open
@@ -80,7 +82,7 @@ class Follows:
         is_own = command.words[:1] != ["put"] if words[0] in IN_RULES else command.is_block
         return None if is_own or words[0] not in NEEDED else self.missing.get((NEEDED[words[0]], words[-1]))
 
-    def opens(self, command, rest):
+    def opens(self, command: Any, rest: Sequence[Answered]) -> bool:
         """Whether the line was to open a block, whose lines are refused one by one up to an `end`."""
         if command.is_block or not OPENS.match(self.lines[command.first]):
             return False

@@ -1,16 +1,21 @@
 """What of a script's sources has no effect: rules that are never tried; symbols that nothing reaches; attributes and
 parameters that no rule uses."""
 from collections import defaultdict
+from typing import Any, Dict, Iterable, Iterator, List, Set, Tuple
 
+from .standing import Standing
+
+Placed = Tuple[Any, int]  # a rule, and the place of its line
+Note = Tuple[int, str]  # the place of a line, and a sentence
 MOST = 5  # names that a note lists
 
 
-def listed(names):
+def listed(names: List[str]) -> str:
     shown = ", ".join(f"`{name}`" for name in names[:MOST])
     return shown + (f" and {len(names) - MOST} more" if names[MOST:] else "")
 
 
-def by_symbol(rules):
+def by_symbol(rules: Dict[int, Placed]) -> Dict[str, List[Placed]]:
     """The rules of each symbol with their places, in the order in which they are tried."""
     found = defaultdict(list)
     for _, (rule, at) in sorted(rules.items()):
@@ -18,7 +23,7 @@ def by_symbol(rules):
     return found
 
 
-def reached(symbols, first):
+def reached(symbols: Dict[str, List[Placed]], first: Iterable[str]) -> Set[str]:
     """The symbols that these lead to, and these."""
     found, ahead = set(), list(first)
     while ahead:
@@ -29,7 +34,7 @@ def reached(symbols, first):
     return found
 
 
-def of_rules(rules):
+def of_rules(rules: List[Placed]) -> Iterator[Note]:
     """Each rule that comes behind one that is always taken, or taken wherever it would be."""
     for at, (rule, place) in enumerate(rules):
         for earlier, _ in rules[:at]:
@@ -41,7 +46,7 @@ def of_rules(rules):
                 break
 
 
-def of_symbols(symbols, lots):
+def of_symbols(symbols: Dict[str, List[Placed]], lots: Dict[str, Tuple[str, int]]) -> Iterator[Note]:
     """The symbols that no lot comes to; those that only such a symbol makes are told with it."""
     known = reached(symbols, [symbol for symbol, _ in lots.values()]) if lots else set(symbols)
     left = [symbol for symbol in symbols if symbol not in known]
@@ -55,14 +60,14 @@ def of_symbols(symbols, lots):
         left = [symbol for symbol in left if symbol not in below]
 
 
-def of_attributes(rules, attributes):
+def of_attributes(rules: Dict[int, Placed], attributes: Dict[str, int]) -> Iterator[Note]:
     used = {name for rule, _ in rules.values() for name in rule.names}
     for name, place in attributes.items():
         if name not in used:
             yield place, f"no rule uses the attribute `{name}`"
 
 
-def of_parameters(rules):
+def of_parameters(rules: List[Placed]) -> Iterator[Note]:
     """The parameters of a symbol, by their place, that none of its rules uses."""
     for at, name in enumerate(rules[0][0].parameters):
         if all(rule.parameters[at] not in rule.names for rule, _ in rules if rule.parameters[at:]):
@@ -71,7 +76,7 @@ def of_parameters(rules):
             ], f"the parameter `{name}` of `{rules[0][0].symbol}` has no effect: none of its rules uses it"
 
 
-def notes(now):
+def notes(now: Standing) -> List[Note]:
     """All of them, each with the place of its line, by these places."""
     symbols = by_symbol(now.rules)
     found = [*of_symbols(symbols, now.lots), *of_attributes(now.rules, now.attributes)]

@@ -1,4 +1,7 @@
 """The rules of a script, which its lots are to be taken from elsewhere: its head, its symbols, and rules put to them."""
+from pathlib import Path
+from typing import Any, List, Tuple, Union
+
 from .call import Refused
 from .script import LONGEST, commands, is_open, is_version, lines_of, rule_of, words_of
 from .strangers_text import told
@@ -12,7 +15,7 @@ HIGHEST = 999_999
 class Rules:
     """The lines that are kept, the place of the block's end among them, and each symbol's parameters by its least rule."""
 
-    def __init__(self, path):
+    def __init__(self, path: Union[str, Path]):
         with open(path, "rb") as file:
             lines = lines_of(file.read())
         self.path, self.lines, self.end, self.is_dressed = path, [], None, False
@@ -26,10 +29,10 @@ class Rules:
             symbol: words for _, symbol, words in sorted((number, *head) for number, head in self.heads.items())[::-1]
         }
 
-    def refused(self, command, why):
+    def refused(self, command: Any, why: str) -> Refused:
         return Refused(f"{self.path}:{command.first}: {why}")
 
-    def take(self, command, lines):
+    def take(self, command: Any, lines: List[str]) -> None:
         head = command.words[0] if command.words else ""
         if head in LEFT_OUT:
             return
@@ -53,7 +56,7 @@ class Rules:
             for line in some:
                 self.take_rule(line)
 
-    def take_rule(self, line):
+    def take_rule(self, line: str) -> None:
         rule, words = rule_of(line), words_of(line)
         if rule is None or len(line) > LONGEST:
             return
@@ -64,11 +67,11 @@ class Rules:
         self.heads[number] = symbol, tuple(inside[::2])
         self.asks |= any(words[k : k + 3] == ["Scope", ".", "occ"] for k in range(len(words)))
 
-    def first_symbol(self):
+    def first_symbol(self) -> str:
         """The symbol of the rule that stands first."""
         return next((symbol for symbol, _ in self.heads.values()), "lot")
 
-    def with_rules(self, rules):
+    def with_rules(self, rules: List[Tuple[str, str]]) -> List[str]:
         """The lines with further rules, each a symbol and what stands behind it, of a priority that goes first."""
         if not rules:
             return self.lines
