@@ -8,6 +8,7 @@ from decimal import Decimal
 from typing import Any, Dict, Iterator, List, Optional, Tuple
 
 from .call import Refused
+from .cityjson import as_geojson
 from .ground_kinds import area_kind, line_kind
 from .geometry import Position, is_geometry, line, pieces, polygon
 from .reference_system import CONVERT
@@ -130,9 +131,19 @@ def name_of(feature: Any, word: str) -> str:
     return "" if given is None or isinstance(given, (bool, list, dict)) else str(given).strip()
 
 
+def data_of(path: str) -> Any:
+    data = parsed(path)
+    if not isinstance(data, dict) or data.get("type") != "CityJSON":
+        return data
+    try:
+        return as_geojson(data)
+    except (KeyError, TypeError, ValueError, LookupError, AttributeError, ArithmeticError):
+        raise Refused(f"{path}: is no whole CityJSON: export it again, or take its GeoJSON") from None
+
+
 def read_map(path: str, word: str, skips: Skips) -> Map:
     """The map; `word` is the property that names its parcels."""
-    data = parsed(path)
+    data = data_of(path)
     found = Map(data.get("crs") if isinstance(data, dict) else None)
     for number, feature in enumerate(features_of(data, path), 1):
         text = name_of(feature, word)

@@ -19,7 +19,7 @@ Area = namedtuple("Area", "kind name ring holes")
 Plot = namedtuple("Plot", "lot feature name area ring holes front properties")
 # system is the code, units those of its numbers; origin is (0, 0) in them, and angle how far the script is turned
 Place = namedtuple("Place", "system units origin angle")
-PLACES = 3
+PLACES = 6
 
 
 class Ground:
@@ -57,7 +57,7 @@ def data_of(ground: Ground) -> Dict[str, Any]:
         "plots": [
             {
                 **plot._asdict(),
-                "area": round(plot.area, PLACES),
+                "area": round(plot.area, 3),
                 "ring": rounded(plot.ring),
                 "holes": [rounded(hole) for hole in plot.holes],
                 "front": rounded(plot.front),

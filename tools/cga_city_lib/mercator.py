@@ -36,3 +36,16 @@ def metres(longitude, latitude, middle):
 def turn_of(degrees):
     """A difference of longitudes, from -180 and below 180."""
     return (degrees + 180) % 360 - 180
+
+
+def degrees(east, north, middle):
+    """The longitude and latitude of a point so far to the east and to the north of `middle`, by going nearer to it."""
+    longitude, latitude = middle
+    for _ in range(9):
+        x, y = metres(longitude, latitude, middle)
+        if abs(north - y) + abs(east - x) < 1e-9:
+            break
+        up = math.radians(latitude)
+        latitude += (north - y) / 111132.0
+        longitude += (east - x) / (111320.0 * math.cos(up))
+    return longitude, latitude
