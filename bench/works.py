@@ -69,6 +69,12 @@ def many_rules(rules, shapes):
     return city(f'1: row -> Repeat("X", 1) {{ leaf }}\n{tried}{rules + 2}: leaf -> NIL\nlot a 1 0 0 {shapes} 10 row\n')
 
 
+def idle_rules(lots, rules):
+    """A town in whose grammar there are so many rules of symbols that no shape has."""
+    idle = "".join(f"{10 + number}: idle{number} -> NIL\n" for number in range(rules))
+    return city(RULES.format(floors=3) + idle + "".join(map(lot, range(lots))))
+
+
 def large_grammar():
     """512 rules and 128 attributes. A lot has a shape for each rule, and one shape mentions the first attribute."""
     attributes = "".join(f"attr a{number} = 1\n" for number in range(128))
@@ -137,6 +143,8 @@ def towns():
 def grammars():
     for shapes in (200, 2000):
         yield Work(LINE, f"{shapes:,} shapes of a symbol with 500 rules", "", [many_rules(500, shapes)])
+    yield Work(LINE, "100 lots from nothing, and 490 rules of other symbols", "", [idle_rules(100, 490)])
+    yield Work(EDIT, "one lot's edit, 100 lots, and 490 rules of other symbols", idle_rules(100, 490), edits(100))
     values = [f"attr a0 = {value}\n" for value in (2, 1)] * 10
     yield Work(EDIT, "an attribute of one shape, 512 rules, 128 attributes", large_grammar(), values)
     yield Work(LINE, "16 former sources of 2 MB of rules", "", [long_rules()])
@@ -154,6 +162,7 @@ def texts():
         yield Work(LINE, f"a judged trace, {lots} lots", town(lots), [judged(lots)])
     yield Work(LINE, "stats, 100 lots", town(100), ["stats\n"] * TIMES)
     yield Work(REPORT, "print, 100 lots", town(100), ["print\n"] * 10)
+    yield Work(REPORT, "the first print of 1,000 lots", town(1000), ["print\n"])
     yield Work(REPORT, "model with dressed windows, 100 lots", town(100) + BOX, ["model\n"] * 10)
     yield Work(REPORT, "trace, 100 lots", town(100), ["trace\n"] * 10)
     yield Work(LINE, "64 MiB of blank lines", "", ["\n" * 2**26])

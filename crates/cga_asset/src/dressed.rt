@@ -45,6 +45,11 @@ impl Meshes for Wardrobe {
     ghost mesh_of = { dressed_mesh };
 
     #[tactic(auto, unfolding(crate::specs::Dressed::dressed_mesh))]
+    fn is_solid(&self, drawn: &Drawn) -> bool {
+        self.worn(&drawn.symbol).is_none()
+    }
+
+    #[tactic(auto, unfolding(crate::specs::Dressed::dressed_mesh))]
     fn mesh(&self, alloc: Global, drawn: &Drawn) -> Result<SolidMesh, NoMemory> {
         match self.worn(&drawn.symbol) {
             Some(asset) => worn_mesh(alloc, asset, drawn),

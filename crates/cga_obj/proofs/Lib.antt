@@ -1,2 +1,5 @@
+mod Decimals
 mod Instances
+mod Plain
 mod Runs
+mod Spans

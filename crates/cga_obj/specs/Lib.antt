@@ -1,3 +1,6 @@
+pub mod Boxes
 pub mod Faults
 pub mod Lots
 pub mod Meshes
+pub mod Narrow
+pub mod Plain

@@ -6,10 +6,15 @@
 //! whole text, so texts of single lots can't be joined.
 #![tactic(auto)]
 
+mod boxes;
+mod corner;
+mod ends;
 mod faults;
 mod mesh;
 mod meshes;
 mod obj;
+mod piece;
+mod span;
 
 pub use faults::{fault_code, fault_text, push_path};
 pub use meshes::{Meshes, Solids};

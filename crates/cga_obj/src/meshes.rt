@@ -1,4 +1,4 @@
-ghost use Rattle.std.specs.Prelude.{◌≡◌, IfOk, IsOk};
+ghost use Rattle.std.specs.Prelude.{◌≡◌, IfOk, IsOk, IsTrue};
 ghost use Rattle.cga_solid.specs.Solids.{check_solid_of};
 ghost use Rattle.cga_obj.specs.Meshes.{mesh_drawn};
 
@@ -15,6 +15,10 @@ pub trait Meshes {
     /// The mesh that stands for it.
     ghost mesh_of: { Self → Drawn → SolidMesh };
 
+    /// Whether that is known to be its solid.
+    fn is_solid(&self, drawn: &Drawn) -> bool
+        ensures { IsTrue result → mesh_of self.now drawn.now ≡ mesh_drawn drawn.now };
+
     /// Takes memory.
     fn mesh(&self, alloc: Global, drawn: &Drawn) -> Result<SolidMesh, NoMemory>
         requires { IsOk (check_solid_of drawn.now.primitive drawn.now.scope) }
@@ -27,6 +31,10 @@ pub struct Solids;
 
 impl Meshes for Solids {
     ghost mesh_of = { λ _ drawn. mesh_drawn drawn };
+
+    fn is_solid(&self, _drawn: &Drawn) -> bool {
+        true
+    }
 
     fn mesh(&self, alloc: Global, drawn: &Drawn) -> Result<SolidMesh, NoMemory> {
         match mesh(alloc, drawn.primitive, &drawn.scope)? {

@@ -1,8 +1,10 @@
 ghost use Rattle.std.specs.Prelude.{◌≡◌, ◌≤◌, ◌^◌, ◌+◌, ◌*◌, ◌++◌, IfOk, IsOk, OnOk, bytes_eq, codes, length};
 ghost use Rattle.std.specs.List.{IsDistinct, prefix_len};
 ghost use Rattle.cga_solid.specs.Solids.{check_solid_of};
+ghost use Rattle.cga_obj.specs.Meshes.{mesh_text};
 ghost use Rattle.cga_obj.specs.Lots.{AreSolid, StandsBy, instance_text, instances_text, is_of, lot_text, lots_text, obj_text_of, text_by, vertex_count, vertices_in};
 
+use crate::boxes::push_box;
 use crate::mesh::push_mesh;
 use crate::meshes::{Meshes, Solids};
 use cga_fraction::{List, NoMemory, Text};
@@ -18,6 +20,56 @@ fn push_name(text: &mut Text, word: &[u8], name: &Name) -> Result<(), NoMemory>
     text.push(word)?;
     text.push(name.bytes())?;
     text.push_byte(b'\n')
+}
+
+// Where fewer vertices stand before a box, the numbers of its corners have 64 bits.
+const MOST_BEFORE: u128 = 1 << 60;
+
+// Adds the lines of the mesh that stands for an instance, and gives the number of its vertices.
+fn push_meshed<M: Meshes>(
+    alloc: Global,
+    meshes: &M,
+    text: &mut Text,
+    decimals: u8,
+    before: u128,
+    drawn: &Drawn,
+) -> Result<usize, NoMemory>
+    requires few { decimals ≤ 9 }
+    requires room { before + 2 ^ 64 ≤ 2 ^ 128 }
+    requires solid { IsOk (check_solid_of drawn.now.primitive drawn.now.scope) }
+    ensures text { OnOk result
+        (text.new ≡ text.old ++ mesh_text decimals before (M.mesh_of meshes.now drawn.now)) }
+    ensures count { IfOk result (λ count. count ≡ vertex_count (M.mesh_of meshes.now) drawn.now) }
+{
+    let mesh = meshes.mesh(alloc, drawn)?;
+    push_mesh(text, decimals, before, &mesh)?;
+    Ok(mesh.vertices.len())
+}
+
+// The same, without a mesh where that is known to be a cube or a quad.
+fn push_shown<M: Meshes>(
+    alloc: Global,
+    meshes: &M,
+    text: &mut Text,
+    decimals: u8,
+    before: u128,
+    drawn: &Drawn,
+) -> Result<usize, NoMemory>
+    requires few { decimals ≤ 9 }
+    requires room { before + 2 ^ 64 ≤ 2 ^ 128 }
+    requires solid { IsOk (check_solid_of drawn.now.primitive drawn.now.scope) }
+    ensures text { OnOk result
+        (text.new ≡ text.old ++ mesh_text decimals before (M.mesh_of meshes.now drawn.now)) }
+    ensures count { IfOk result (λ count. count ≡ vertex_count (M.mesh_of meshes.now) drawn.now) }
+{
+    if before >= MOST_BEFORE || !meshes.is_solid(drawn) {
+        return push_meshed(alloc, meshes, text, decimals, before, drawn);
+    }
+    let added = push_box(text, decimals, before as u64, drawn.primitive, &drawn.scope)?;
+    match added {
+        Some(count) => Ok(count),
+        None => push_meshed(alloc, meshes, text, decimals, before, drawn),
+    }
 }
 
 // Adds an instance, and gives the number of its vertices.
@@ -38,9 +90,7 @@ fn push_instance<M: Meshes>(
     ensures count { IfOk result (λ count. count ≡ vertex_count (M.mesh_of meshes.now) drawn.now) }
 {
     push_name(text, b"g ", &drawn.symbol)?;
-    let mesh = meshes.mesh(alloc, drawn)?;
-    push_mesh(text, decimals, before, &mesh)?;
-    Ok(mesh.vertices.len())
+    push_shown(alloc, meshes, text, decimals, before, drawn)
 }
 
 // Adds these, and gives the number of vertices behind them.

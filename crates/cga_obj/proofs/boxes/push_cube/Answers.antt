@@ -1,0 +1,9 @@
+use Rattle.cga_obj.proofs.Plain.{cube_count, cube_pushed}
+use Rattle.cga_obj.proofs.boxes.push_cube.Goals as goal
+
+pub returns-clause-text : goal.returns-clause-text
+returns-clause-text c =
+    cube_pushed c.args.scope.now c.args.along.now c.args.decimals c.args.before _ _ _ c.requires.solid c.requires.spans c.in_ok-push_vertices.ensures c.in_ok-push_cube_faces.ensures
+
+pub returns-clause-count : goal.returns-clause-count
+returns-clause-count c = cube_count c.args.scope.now c.args.along.now c.requires.solid c.requires.spans
