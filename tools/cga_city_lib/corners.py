@@ -1,5 +1,6 @@
 """The corners of faces as a primitive of a glTF file holds them: places, normals, u and v, and triangles of these."""
 from array import array
+from operator import add, itemgetter
 from typing import TYPE_CHECKING, Dict, List, Sequence, Tuple
 
 from .eye import dot, normal
@@ -11,20 +12,24 @@ if TYPE_CHECKING:
     from .glb import Glb
 
 Point = Tuple[float, float, float]
+FOURS = array("I")
 
 
 class Pattern:
-    """What all solids of a form share: their corners face by face, told from the first corner on."""
+    """What all solids of a form share: their corners face by face, told from the first corner on, and which of `ways` u and v
+    go along, whose directions these are."""
 
     def __init__(self, faces: Sequence[Sequence[int]], points: Sequence[Point]) -> None:
-        corners = [points[at] for face in faces for at in face]
-        self.number = len(corners)
-        self.xs, self.ys, self.zs = (list(axis) for axis in zip(*corners))
-        self.normals, self.triangles = array("f"), array("I")
-        self.ways: List[Point] = []  # the directions of u and of -v, each once
-        self.maps: List[float] = []
-        self.way_of: List[int] = []
+        self.number = sum(map(len, faces))
+        self.places = [part for face in faces for at in face for part in points[at]]
+        self.has_four = all(len(face) == 4 for face in faces)
+        self.normals, self.triangles, self.maps = (
+            array("f"),
+            array("I"),
+            [],
+        )  # type: array[float], array[int], List[float]
         known: Dict[Point, int] = {}
+        numbers: List[int] = []
         for face in faces:
             up = normal(*[points[at] for at in face[:3]])
             u, v = directions(up)
@@ -33,35 +38,41 @@ class Pattern:
             self.normals.extend(up * len(face))
             for k in range(first + 1, first + len(face) - 1):
                 self.triangles.extend((first, k, k + 1))
-            numbers = [known.setdefault(way, len(known)) for way in pair]
             for at in face:
                 self.maps += [dot(points[at], way) for way in pair]
-                self.way_of += numbers
-        self.ways = list(known)
+                numbers += [known.setdefault(way, len(known)) for way in pair]
+        self.ways, self.each = list(known), itemgetter(*numbers)
 
 
 class Corners:
+    """Triangles of faces with four corners are told at the end, where no other face is there."""
+
     def __init__(self) -> None:
         self.places, self.normals, self.maps, self.triangles = array("f"), array("f"), array("f"), array("I")
-        self.number = 0
+        self.number = self.fours = 0
 
     def add(self, pattern: Pattern, corner: Point = (0.0, 0.0, 0.0), low: Point = (0.0, 0.0, 0.0)) -> None:
         """A solid whose first corner stands there. Its texture lies by that, and its places are told from a low corner on."""
         x, y, z = corner
-        a, b, c = x - low[0], y - low[1], z - low[2]
-        places = [0.0] * (3 * pattern.number)
-        places[::3] = [part + a for part in pattern.xs]
-        places[1::3] = [part + b for part in pattern.ys]
-        places[2::3] = [part + c for part in pattern.zs]
-        self.places.extend(places)
-        ways = [x * u + y * v + z * w for u, v, w in pattern.ways]
-        self.maps.extend([part + ways[at] for part, at in zip(pattern.maps, pattern.way_of)])
+        moved = (x - low[0], y - low[1], z - low[2]) * pattern.number
+        self.places.extend(map(add, pattern.places, moved))
+        ways = [x * a + y * b + z * c for a, b, c in pattern.ways]
+        self.maps.extend(map(add, pattern.maps, pattern.each(ways)))
         self.normals.extend(pattern.normals)
-        number = self.number
-        self.triangles.extend([number + at for at in pattern.triangles])
+        if self.fours == self.number and pattern.has_four:
+            self.fours += pattern.number
+        else:
+            self.tell_fours()
+            number = self.number
+            self.triangles.extend([number + at for at in pattern.triangles])
         self.number += pattern.number
 
+    def tell_fours(self) -> None:
+        if not self.triangles:
+            self.triangles.extend(triangles_of_fours(self.fours))
+
     def primitive(self, glb: "Glb", material: int) -> Dict[str, object]:
+        self.tell_fours()
         return {
             "material": material,
             "indices": glb.accessor(self.triangles, "SCALAR", INDICES),
@@ -71,6 +82,14 @@ class Corners:
                 "TEXCOORD_0": glb.accessor(self.maps, "VEC2", VERTICES),
             },
         }
+
+
+def triangles_of_fours(number: int) -> array:
+    """The triangles of faces that have four corners each, of so many corners."""
+    while len(FOURS) * 4 < number * 6:
+        at = len(FOURS) // 6 * 4
+        FOURS.extend((at, at + 1, at + 2, at, at + 2, at + 3))
+    return FOURS[: number // 4 * 6]
 
 
 def pattern_of(form: Form, known: Dict[Form, Pattern]) -> Pattern:

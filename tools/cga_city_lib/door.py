@@ -1,5 +1,6 @@
 """The one door of the tools: a town from a script, which a program derives, or from the OBJ text that a run printed."""
 import argparse
+import gc
 import os
 import re
 import sys
@@ -84,9 +85,13 @@ def check_words(words: argparse.Namespace, found: Given, *others: Given) -> None
 
 
 def read(found: Given, words: argparse.Namespace, is_ordered: bool) -> Opened:
-    if found.is_script:
-        return scripted(found, words, is_ordered)
-    return Opened(found, *from_obj(found.text()))
+    """Reads the town, which has many small objects, and no ring of them that would have to be looked for."""
+    gc.disable()
+    try:
+        return scripted(found, words, is_ordered) if found.is_script else Opened(found, *from_obj(found.text()))
+    finally:
+        gc.freeze()
+        gc.enable()
 
 
 def opened_drawn(path: str, words: argparse.Namespace, is_ordered: bool = True) -> Opened:

@@ -66,12 +66,11 @@ class Glb:
         """The bytes of the file, whose scene has these nodes."""
         self.bytes += bytes(-len(self.bytes) % 4)
         told = self.text(roots)
-        chunks = chunk(b"JSON", told + b" " * (-len(told) % 4)) + (chunk(b"BIN\0", self.bytes) if self.bytes else b"")
-        return struct.pack("<4sII", b"glTF", 2, 12 + len(chunks)) + chunks
-
-
-def chunk(kind: bytes, data: bytes) -> bytes:
-    return struct.pack("<I4s", len(data), kind) + data
+        told += b" " * (-len(told) % 4)
+        parts = [struct.pack("<I4s", len(told), b"JSON"), told]
+        if self.bytes:
+            parts += [struct.pack("<I4s", len(self.bytes), b"BIN\0"), self.bytes]
+        return b"".join([struct.pack("<4sII", b"glTF", 2, 12 + sum(map(len, parts))), *parts])
 
 
 def little(values: "array[Any]") -> bytes:

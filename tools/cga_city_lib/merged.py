@@ -1,9 +1,10 @@
 """A town as the lines of an OBJ text with one mesh for each symbol of each lot, and a place in a texture for each corner."""
 from fractions import Fraction
+from operator import itemgetter
 from typing import Dict, Iterator, List, Optional, Sequence, Tuple
 
 from .exact import parted
-from .eye import normal
+from .eye import dot, normal
 from .forms import Form
 from .instances import Instance, Lots
 from .numerals import fixed, rounded
@@ -34,31 +35,36 @@ class Axis(Dict[Tuple[str, int, int], str]):
         return self[key]
 
 
+class Texts(Dict[float, str]):
+    """u or v as it is written."""
+
+    def __missing__(self, number: float) -> str:
+        text = f"{number:.4f}"
+        self[number] = "0.0000" if text == "-0.0000" else text
+        return self[number]
+
+
 class Shape:
-    """What all solids of a form share: lines of vertices and faces to be filled in, and the directions of its faces."""
+    """What all solids of a form share: lines of vertices and faces to be filled in, and what fills them. `parts` are coordinates
+    from the first corner on, each with its axis, and `ways` are directions of u or v with the form's own part along them.
+    """
 
     def __init__(self, form: Form) -> None:
-        self.one = form.one
-        self.parts: List[Tuple[int, int]] = sorted(
-            {(axis, corner[axis]) for corner in form.corners for axis in range(3)}
-        )
-        place = {part: at for at, part in enumerate(self.parts)}
-        self.vertices = "".join(
-            "v " + " ".join(f"{{{place[axis, corner[axis]]}}}" for axis in range(3)) + "\n" for corner in form.corners
-        )
-        self.number, points = len(form.corners), form.points()
+        self.one, self.number = form.one, len(form.corners)
+        flat = [(axis, corner[axis]) for corner in form.corners for axis in range(3)]
+        self.parts = sorted(set(flat))
+        self.coordinates = itemgetter(*map(self.parts.index, flat))
+        self.vertices = "v %s %s %s\n" * self.number
         self.corners = [at for face in form.faces for at in face]
-        self.faces = "".join("f " + " ".join(["%d/%d"] * len(face)) + "\n" for face in form.faces)
-        self.ways: List[Tuple[Direction, float]] = []  # along which u or v goes, and its part of the form's own
-        known: Dict[Tuple[Direction, float], int] = {}
-        self.uvs: List[Tuple[int, int]] = []
+        self.faces = "".join("f" + " %d/%d" * len(face) + "\n" for face in form.faces)
+        points, known = form.points(), {}  # type: List[Direction], Dict[Tuple[Direction, float], int]
+        pairs: List[List[int]] = [[], []]
         for face in form.faces:
+            both = directions(normal(*[points[at] for at in face[:3]]))
             for at in face:
-                pair = []
-                for direction in directions(normal(*[points[corner] for corner in face[:3]])):
-                    way = direction, sum(a * b for a, b in zip(direction, points[at]))
-                    pair.append(known.setdefault(way, len(known)))
-                self.uvs.append((pair[0], pair[1]))
+                for pair, way in zip(pairs, both):
+                    pair.append(known.setdefault((way, dot(way, points[at])), len(known)))
+        self.us, self.vs = itemgetter(*pairs[0]), itemgetter(*pairs[1])
         self.ways = list(known)
 
 
@@ -72,7 +78,7 @@ class Merged:
         self.shapes: Dict[Form, Shape] = {}
         self.reals: Dict[Tuple[int, str], float] = {}
         self.maps: Dict[Tuple[str, str], int] = {}
-        self.texts: Dict[float, str] = {}
+        self.texts = Texts()
 
     def shape(self, form: Form) -> Shape:
         found = self.shapes.get(form)
@@ -102,34 +108,31 @@ class Merged:
         _, form, corner = instance
         shape, axes = self.shape(form), self.axes
         one = shape.one
-        return shape.vertices.format(*[axes[axis][corner[axis], part, one] for axis, part in shape.parts])
+        texts = [axes[axis][corner[axis], part, one] for axis, part in shape.parts]
+        return shape.vertices % shape.coordinates(texts)
 
     def faces(self, first: int, instance: Instance) -> Iterator[str]:
         """The lines `vt` that weren't written yet, and the lines of the faces."""
         _, form, corner = instance
         shape = self.shape(form)
         texts = self.along(shape, corner)
-        words: List[int] = []
-        for at, (u, v) in zip(shape.corners, shape.uvs):
-            pair = texts[u], texts[v]
-            number = self.maps.get(pair)
-            if number is None:
-                number = self.maps[pair] = len(self.maps) + 1
-                yield f"vt {pair[0]} {pair[1]}\n"
-            words += (first + at, number)
+        pairs = list(zip(shape.us(texts), shape.vs(texts)))
+        numbers = list(map(self.maps.get, pairs))
+        if None in numbers:
+            for pair in pairs:
+                if pair not in self.maps:
+                    self.maps[pair] = len(self.maps) + 1
+                    yield f"vt {pair[0]} {pair[1]}\n"
+            numbers = [self.maps[pair] for pair in pairs]
+        words: List[Optional[int]] = [None] * (2 * len(numbers))
+        words[::2], words[1::2] = [first + at for at in shape.corners], numbers
         yield shape.faces % tuple(words)
 
     def along(self, shape: Shape, corner: Sequence[str]) -> List[str]:
         """u or v of a corner for each of the shape's ways."""
         x, y, z = (self.real(axis, text) for axis, text in enumerate(corner))
-        known, found = self.texts, []
-        for (a, b, c), own in shape.ways:
-            number = a * x + b * y + c * z + own
-            text = known.get(number)
-            if text is None:
-                text = known[number] = f"{number + 0:.4f}"
-            found.append("0.0000" if text == "-0.0000" else text)
-        return found
+        texts = self.texts
+        return [texts[a * x + b * y + c * z + own] for (a, b, c), own in shape.ways]
 
     def real(self, axis: int, text: str) -> float:
         key = axis, text

@@ -1,12 +1,5 @@
 """The solids in a trace, in the order of `print`: a child that was never expanded itself is one."""
-from typing import Dict, Iterator, List, NamedTuple, Sequence, Tuple
-
-
-class Node(NamedTuple):
-    """An expansion: the text before its children's numbers, and how many it has."""
-
-    before: str
-    children: int
+from typing import Dict, Iterator, List, Sequence, Tuple
 
 
 class Traced:
@@ -14,26 +7,30 @@ class Traced:
 
     def __init__(self, steps: Sequence[str]) -> None:
         self.known: Dict[str, int] = {}
-        self.nodes: List[Node] = []
-        for line in steps:
-            _, _, lot, path, _, _, _, result = line.split(" ")
-            self.known[lot + path] = len(self.nodes)
-            before = f"{lot}{path}" if path == "/" else f"{lot}{path}/"
-            self.nodes.append(Node(before, int(result) if result.isdigit() else 0))
         self.ids: List[str] = []
-        self.below = [self.children(node) for node in self.nodes]
+        befores, counts = [], []
+        for at, line in enumerate(steps):
+            _, _, lot, path, _, _, _, result = line.split(" ")
+            key = lot + path
+            self.known[key] = at
+            befores.append(key if path == "/" else key + "/")
+            counts.append(int(result) if result.isdigit() else 0)
+        self.below = list(self.children(befores, counts))
 
-    def children(self, node: Node) -> List[int]:
-        """The places of its children among the nodes, and below 0 those among the solids, from -1 on."""
-        found, known, ids, before = [], self.known, self.ids, node.before
-        for number in range(node.children):
-            key = f"{before}{number}"
-            at = known.get(key)
-            if at is None:
-                ids.append(key)
-                at = -len(ids)
-            found.append(at)
-        return found
+    def children(self, befores: List[str], counts: List[int]) -> Iterator[List[int]]:
+        """For each step the places of its children among the steps, and below 0 those among the solids, from -1 on."""
+        find, ids = self.known.get, self.ids
+        words = [str(number) for number in range(max(counts, default=0))]
+        for before, count in zip(befores, counts):
+            found = []
+            for word in words[:count]:
+                key = before + word
+                at = find(key)
+                if at is None:
+                    ids.append(key)
+                    at = -len(ids)
+                found.append(at)
+            yield found
 
     def in_order(self, lots: Sequence[str]) -> Iterator[Tuple[str, int]]:
         """The lot and the number of each solid, lot by lot and by its path."""
