@@ -1,8 +1,10 @@
 """What to write in the place of what is refused, where it is a habit of another CGA dialect or a common slip."""
 import re
 
+from .habits import habit
 from .script import COMMANDS, COMMANDS_2, RESERVED, tokens
 
+OF_HABITS = ("Unexpected", "BadByte", "UnknownSymbol", "UnknownName")
 AT_PLACE = [  # what stands at the place
     (r"'[A-Za-z]", 'names in quotes have double ones: I("quad")'),
     (r"'", "a share of the scope is written with an r: S(1r, 6, 1r)"),
@@ -75,7 +77,7 @@ class Place:
     """A column of a line, 0 where only the line is known, and whether the line stands in a block."""
 
     def __init__(self, line, column, is_inside):
-        self.line, self.is_inside = line, is_inside
+        self.line, self.column, self.is_inside = line, column, is_inside
         self.before = " ".join(word for at, word in tokens(line) if at < column)
         self.rest = line[column - 1 :] if column else ""
         word = re.match(r"\w+", self.rest, re.ASCII)
@@ -87,6 +89,9 @@ class Place:
 
 def advice(cause, words, place):
     """The first advice that fits, or nothing; `words` are what is told with the cause."""
+    told = habit(place.line, place.column) if cause in OF_HABITS else ""
+    if told:
+        return told
     if cause in ("UnknownSymbol", "BadProbability"):
         is_first = cause == "UnknownSymbol" and place.line.split()[:1] == ["put"] and not place.is_inside
         return of_names(words[-1:], place) or ("put that rule first, or both in one block" if is_first else "")
@@ -162,6 +167,8 @@ def at_start(place):
         return f"`{place.word}` stands in no block: end this one by `end` first"
     if place.word in COMMANDS_2:
         return "it takes `version 2` as the first line"
+    if place.is_inside and re.match(r"\w+\s*(\(.*\))?\s*-+>", place.rest):
+        return f"a rule begins with its number: 1: {place.word} -> .."
     if place.word not in [*COMMANDS, *COMMANDS_2, "PRIORITY"] and place.word.lower() in COMMANDS + COMMANDS_2:
         return f"commands are written in small letters: {place.word.lower()}"
     if place.word in ("version", "end"):

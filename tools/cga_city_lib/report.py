@@ -16,6 +16,7 @@ from .strangers_text import shown
 REFUSED = re.compile(r"# refused (\w+) ?(.*)")
 PLACE = re.compile(r"at (?:(\d+):)?(\d+)")
 WIDEST = 300
+NO_BLOCK = "rules stand in a block: write a line `rules` before this one, and a line `end` behind the rules"
 
 
 def readable(text):
@@ -36,10 +37,11 @@ def shortened(path):
 
 class Report:
     """A script's lines, and its commands with their replies; `ways` has for a shape that came to nothing the symbols above it.
-    `ask` replies to other lines: by it all refused lines of a block are told, and not the first alone."""
+    `ask` replies to other lines: by it all refused lines of a block are told, and not the first alone. `head` is the place of
+    a line `rules` that the script itself doesn't have, where it has rules without a block."""
 
-    def __init__(self, path, lines, commands, replies, ways=None, ask=None):
-        self.path, self.lines, self.ways = path, lines, ways or {}
+    def __init__(self, path, lines, commands, replies, ways=None, ask=None, head=None):
+        self.path, self.lines, self.ways, self.head = path, lines, ways or {}, head
         self.answers = list(zip(commands, replies))
         self.retried = Retried(ask or (lambda _: []), place, lines, self.answers if ask else [])
         self.cause_of = Follows(lines, self.answers).cause_of
@@ -59,6 +61,10 @@ class Report:
                 self.cause_of.pop(command.first, None)
             elif not is_refused(reply):
                 self.cause_of.setdefault(command.first, first)
+
+    def number(self, at):
+        """The number of a line in the script itself."""
+        return at + 1 - (self.head is not None and at > self.head)
 
     def place(self, command, cause, rest):
         """The line and the column that a refusal means, and the words that it tells; no column is 0."""
@@ -101,7 +107,7 @@ class Report:
         ]
         if told[1] and cause in ("Unexpected", "BadByte"):
             told[0] = ""
-        yield f"{self.path}:{line + 1}:{column or 1}: {cause}: {'; '.join(filter(None, told))}"
+        yield f"{self.path}:{self.number(line)}:{column or 1}: {cause}: {'; '.join(filter(None, told))}"
         yield "    " + readable(text)[:WIDEST]
         ahead = readable(text[: max(column - 1, 0)])
         if column and len(ahead) < WIDEST:
@@ -111,7 +117,7 @@ class Report:
         """All refusals but those that follow from another; how many follow is told with that one."""
         following = defaultdict(list)
         for first, cause in self.cause_of.items():
-            following[cause].append(first + 1)
+            following[cause].append(self.number(first))
         for command, cause, rest in self.refused:
             if command.first in self.cause_of:
                 continue
@@ -128,7 +134,10 @@ class Report:
     def block(self, told):
         """All refusals of a block."""
         for refusal in told:
-            yield from self.sentence(*refusal, refusal.cause != "OpenBlock")
+            if refusal.line == self.head:
+                yield f"{self.path}:{self.number(self.head)}:1: {NO_BLOCK}"
+            else:
+                yield from self.sentence(*refusal, refusal.cause != "OpenBlock")
             follow = self.retried.follow[refusal.line]
             if follow:
                 yield f"    {follow} further line{'s' * (follow > 1)} of the block {'are' if follow > 1 else 'is'} refused for want of it"
@@ -152,10 +161,10 @@ class Report:
         for (symbol, code), shapes in found.items():
             own, (lot, path) = rules.get(symbol, []), shapes[0]
             many = f"{len(shapes)} shapes of `{symbol}`, such as" if shapes[1:] else f"a shape of `{symbol}`,"
-            first = own[0][1] + 1 if own else 1
+            first = self.number(own[0][1]) if own else 1
             yield f"{self.path}:{first}:1: {code}: {many} {shortened(path)} in lot {lot}, came to nothing: {CODES.get(code, code)}"
             for _, at in own:
-                yield f"    line {at + 1}: {self.lines[at].strip()}"
+                yield f"    line {self.number(at)}: {readable(self.lines[at].strip())}"
             if (lot, path) in self.ways:
                 yield f"    on its way: {' > '.join([*self.way(lot, path, symbol, rules), symbol])}"
             yield f"    what helps: {help_for(code, [self.lines[at] for _, at in own])}"
@@ -167,7 +176,7 @@ class Report:
         yield from self.faults(faults, by_symbol(now.rules))
         told = [] if self.refused else notes(now)
         for at, text in told:
-            yield f"{self.path}:{at + 1}:1: note: {text}"
+            yield f"{self.path}:{self.number(at)}:1: note: {text}"
         further = sum(self.retried.follow.values())
         many = sum(map(len, self.retried.told.values())) - len(self.retried.told) + further + len(self.refused)
         follow = f" ({only} of them only follow)" if (only := len(self.cause_of) + further) else ""

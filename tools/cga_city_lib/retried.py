@@ -104,7 +104,7 @@ class Retried:
         self.told[command.first], self.lost = [], {}
         told = self.told[command.first]
         while is_refused(reply):
-            refusal = Refusal(*self.place(self.working, command, reply))
+            refusal = self.as_written(Refusal(*self.place(self.working, command, reply)))
             if self.is_stuck(refusal, told):
                 break
             if refusal.line == command.first and refusal.cause != "OpenBlock":
@@ -124,6 +124,13 @@ class Retried:
                 break
             reply = replies[number]
         told.sort()
+
+    def as_written(self, refusal: Refusal) -> Refusal:
+        """With the column of the script's own line, where that of a mended one was told."""
+        if refusal.cause not in UNKNOWN:
+            return refusal
+        columns = [column for column, word in tokens(self.lines[refusal.line]) if word == refusal.words[-1]]
+        return refusal._replace(column=columns[-(refusal.cause == "UnknownSymbol")] if columns else refusal.column)
 
     def is_stuck(self, refusal: Refusal, told: List[Refusal]) -> bool:
         """Whether a line is refused that isn't there any more: no program that reads scripts says so."""

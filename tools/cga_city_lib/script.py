@@ -91,6 +91,17 @@ def without(lines, *heads):
     return other
 
 
+def without_block(lines):
+    """The place of the first of a script's lines that stands in no block and should, where the script has no block at all."""
+    found = [command for command in commands(lines) if not is_version(command.words)]
+    if not found or any(command.is_block for command in found):
+        return None
+    line = lines[found[0].first]
+    is_rule = re.match(r"\s*(\d+\s*:\s*)?[A-Za-z_]\w*\s*(\([^()]*\))?\s*(:.*)?-+>", line, re.ASCII)
+    is_head = found[0].words[:1] in (["PRIORITY"], ["attr"]) and any(rule_in(lines[command.first]) for command in found)
+    return found[0].first if is_rule or is_head else None
+
+
 def text_of(lines):
     """The bytes that are read as these lines: one carriage return before a line feed is taken away."""
     return "".join(line + ("\r\n" if line.endswith("\r") else "\n") for line in lines).encode("latin-1")

@@ -2,7 +2,7 @@
 import re
 import subprocess
 from pathlib import Path
-from typing import Dict, List, NamedTuple
+from typing import Callable, Dict, List, NamedTuple, Optional
 
 from ..causes import CODES
 from ..program import LAUNCHER, is_here, ready
@@ -32,6 +32,12 @@ class Runs(NamedTuple):
             return []
         return done.stdout.decode("latin-1").split("\n")[:-1] if done.returncode == 0 else []
 
+    def asking(self) -> Optional[Callable[[List[str]], List[List[str]]]]:
+        """By what all refused lines of a block are found; the definition would take too long for it."""
+        if self.program == str(DEFINITION):
+            return None
+        return lambda lines: list(replies(self.answer(text_of(lines))))
+
 
 def runs_by(program: str) -> Runs:
     """The program that is named. In the launcher's place stands what it would run, or the definition in Python while that
@@ -56,7 +62,7 @@ def findings(document: Document, runs: Runs) -> List[Dict]:
     if len(asked) != len(answers):
         return []
     faults = answers[-1][1:] if asks else []
-    report = Report(NAME, document.lines, asked, answers, ways(runs.program, lines, faults))
+    report = Report(NAME, document.lines, asked, answers, ways(runs.program, lines, faults), runs.asking())
     return listed(document, list(report.lines_for(faults)))
 
 

@@ -2,7 +2,7 @@
 from typing import List, Tuple
 
 from ..call import Refused
-from ..program import run
+from ..program import asking, run
 from ..replies import replies
 from ..report import Report
 from ..script import commands, lines_of, text_of, without
@@ -17,5 +17,5 @@ def findings(program: str, name: str, text: str) -> Tuple[List[str], bool]:
     if status or len(asked) != len(answers):
         raise Refused(f"the script is written, and wasn't looked at: the program ended with status {status}")
     faults = answers[-1][1:]
-    report = Report(name, lines, asked, answers, ways(program, lines, faults))
+    report = Report(name, lines, asked, answers, ways(program, lines, faults), asking(program))
     return list(report.lines_for(faults)), not (report.refused or faults)
