@@ -1,24 +1,26 @@
 """Which boxes touch, found by a sweep. A box is its least and its greatest number on each axis, one axis behind the other,
 as whole numbers over one denominator: never floats, which would tell boxes apart that touch."""
 from collections import defaultdict
+from typing import Dict, Iterator, List, Sequence, Set, Tuple
 
+Box = Sequence[int]
 MOST_STRIPS = 32  # a box over more strips than that is compared with all others
 
 
-def touch(one, other):
+def touch(one: Box, other: Box) -> bool:
     """Whether two closed boxes of two or three axes share a point."""
     if one[0] > other[1] or other[0] > one[1] or one[2] > other[3] or other[2] > one[3]:
         return False
     return len(one) == 4 or one[4] <= other[5] and other[4] <= one[5]
 
 
-def longer_axis(boxes):
+def longer_axis(boxes: Sequence[Box]) -> Tuple[int, int]:
     """Where the axis begins along which the boxes reach further, of the first two, and where the other one does."""
     x, z = (max(box[at + 1] for box in boxes) - min(box[at] for box in boxes) for at in (0, 2))
     return (0, 2) if x >= z else (2, 0)
 
 
-def touching(boxes):
+def touching(boxes: Sequence[Box]) -> Iterator[Tuple[int, int]]:
     """The pairs of places in the list whose closed boxes share a point, each pair once.
 
     The sweep goes along the longer axis, and compares what stands in the same strips across it.
@@ -38,7 +40,7 @@ def touching(boxes):
         )
 
 
-def swept(boxes, along, strips, wide):
+def swept(boxes: Sequence[Box], along: int, strips: List[Tuple[int, int]], wide: Set[int]) -> Iterator[Tuple[int, int]]:
     """The pairs of boxes that aren't wide. Two of them are compared in the first strip that both stand in."""
     waiting, end = defaultdict(list), along + 1
     for at in sorted(set(range(len(boxes))) - wide, key=lambda at: boxes[at][along]):
@@ -55,23 +57,23 @@ def swept(boxes, along, strips, wide):
 class Sets:
     """Places from 0 in sets that can be joined; each set goes by its least place."""
 
-    def __init__(self, number):
+    def __init__(self, number: int):
         self.above = list(range(number))
 
-    def of(self, at):
+    def of(self, at: int) -> int:
         above = self.above
         while above[at] != at:
             above[at] = above[above[at]]
             at = above[at]
         return at
 
-    def join(self, one, other):
+    def join(self, one: int, other: int) -> bool:
         """Whether these were two sets."""
         one, other = self.of(one), self.of(other)
         self.above[max(one, other)] = min(one, other)
         return one != other
 
-    def members(self):
+    def members(self) -> Dict[int, List[int]]:
         """The places of each set, by its least."""
         found = defaultdict(list)
         for at in range(len(self.above)):

@@ -1,12 +1,16 @@
 """Whether the jobs of a region are, together, the region: where a rule asks, no boxes of two jobs may touch."""
 from collections import Counter, defaultdict
 from math import gcd
+from typing import Any, Dict, Iterator, List, Sequence, Tuple
 
 from .apart import Sets, touching
 from .call import Refused
 
+Box = Tuple[int, ...]
+Place = Tuple[int, int]  # a lot: its job, and its place there
 
-def sums(told):
+
+def sums(told: Sequence[Any]) -> Tuple[Dict[str, int], Dict[str, List[int]]]:
     """The counts of the town and its bill, from those of its jobs."""
     counts, bill = Counter(), defaultdict(lambda: [0, 0, 0, 0])
     for job in told:
@@ -16,18 +20,18 @@ def sums(told):
     return counts, bill
 
 
-def bill_text(bill):
+def bill_text(bill: Dict[str, List[int]]) -> str:
     lines = [f"# bill {len(bill)}\n"]
     for symbol, (number, front, volume, unmeasured) in sorted(bill.items()):
         lines.append(f"# bill {symbol} {number} {millionths(front)} {millionths(volume)} {unmeasured}\n")
     return "".join(lines)
 
 
-def millionths(number):
+def millionths(number: int) -> str:
     return f"{number // 10 ** 6}.{number % 10 ** 6:06}"
 
 
-def over_all(told):
+def over_all(told: Sequence[Any]) -> Iterator[List[Box]]:
     """The boxes of each job over one denominator."""
     one = 1
     for job in told:
@@ -37,12 +41,12 @@ def over_all(told):
         yield job.boxes if by == 1 else [tuple(number * by for number in box) for box in job.boxes]
 
 
-def around(boxes):
+def around(boxes: Sequence[Box]) -> Box:
     """The least box that holds these."""
     return tuple((min, max)[at % 2](column) for at, column in enumerate(zip(*boxes)))
 
 
-def within(boxes, area):
+def within(boxes: Sequence[Box], area: Box) -> List[int]:
     """The places of the boxes that touch an area."""
     x, x_end, z, z_end, y, y_end = area
     return [
@@ -52,7 +56,7 @@ def within(boxes, area):
     ]
 
 
-def across_jobs(jobs):
+def across_jobs(jobs: Sequence[List[Box]]) -> Iterator[Tuple[Place, Place]]:
     """The pairs of lots of two jobs whose boxes touch; a lot is its job and its place there. Only lots are compared that
     reach another job's box."""
     wholes, near = list(map(around, jobs)), defaultdict(set)
@@ -65,7 +69,7 @@ def across_jobs(jobs):
             yield lots[one], lots[other]
 
 
-def touching_districts(plan, told):
+def touching_districts(plan: Any, told: Sequence[Any]) -> List[Tuple[int, int]]:
     """Pairs of lots of two jobs that are to stand in one, as few as join all that touch."""
     jobs = plan.drawn()
     if any(len(job.boxes) == 0 for job in told):

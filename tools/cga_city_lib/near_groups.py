@@ -1,8 +1,10 @@
 """Which groups of turned parcels come near to each other: they are worked apart, so that none sees another."""
+from typing import Any, Iterator, List, Sequence, Tuple
+
 from .rectangle import corners, distance
 
 
-def spans(groups, reach):
+def spans(groups: Sequence[Any], reach: float) -> List[Tuple[Any, ...]]:
     """Each rectangle as a ring, with the place of its group, by where it begins along X."""
     found = []
     for number, group in enumerate(groups):
@@ -13,7 +15,7 @@ def spans(groups, reach):
     return sorted(found, key=lambda span: span[0])
 
 
-def near_pairs(groups, reach):
+def near_pairs(groups: Sequence[Any], reach: float) -> List[Tuple[Any, Any, float, Any, Any]]:
     """For two groups the least distance that is below twice the reach, and the two parcels."""
     open_ones, nearest = [], {}
     for span in spans(groups, reach):
@@ -29,7 +31,7 @@ def near_pairs(groups, reach):
     return [(groups[one], groups[two], *found) for (one, two), found in sorted(nearest.items())]
 
 
-def sentences(groups, reach):
+def sentences(groups: Sequence[Any], reach: float) -> Iterator[str]:
     for one, two, far, parcel, other in near_pairs(groups, reach):
         how = f"come as near as {far:.2f}" if far >= 0.005 else "touch or overlap"
         yield (

@@ -1,12 +1,14 @@
 """A script as a region: the lines that each job has, and the lots, of which each job has some."""
 from itertools import groupby
 from pathlib import Path
+from typing import Any, Callable, List, Tuple, Union
 
 from .call import Refused
 from .exact import over_one
 from .lot_lines import unusual, usual
 from .script import commands, is_open, is_version, lines_of
 
+Box = Tuple[int, ...]
 CITY = "rules city put drop attr priority order".split()  # a dump says them again
 DRESSED = "asset dress undress".split()  # of these it says nothing
 COUNTED = "bill model".split()  # each job is asked for these where the script is
@@ -22,7 +24,7 @@ INSTEAD = {
 }
 
 
-def shortened(lines, is_lot):
+def shortened(lines: List[str], is_lot: Callable[[int], bool]) -> Tuple[List[str], List[List[int]]]:
     """The lines with each run of lots as one line `lot`, and the places that each line stands for."""
     short, places = [], []
     for is_run, run in groupby(range(len(lines)), is_lot):
@@ -35,7 +37,7 @@ def shortened(lines, is_lot):
 class Region:
     """The head is the lines before the lots, by their places in the script; the lots are lines by name, in order."""
 
-    def __init__(self, path, has_lots=True):
+    def __init__(self, path: Union[str, Path], has_lots: bool = True):
         self.path, self.data = path, Path(path).read_bytes()
         self.lines = lines_of(self.data)
         self.found = list(map(usual, self.lines))
@@ -52,10 +54,10 @@ class Region:
         if has_lots and not self.names:
             raise Refused(f"{path}: no lot is there")
 
-    def refused(self, at, why):
+    def refused(self, at: int, why: str) -> Refused:
         return Refused(f"{self.path}:{at + 1}: {why}")
 
-    def take(self, command, is_left_open):
+    def take(self, command: Any, is_left_open: bool) -> None:
         head, at = (command.words or [""])[0], self.places[command.first][0]
         if head == "lot":
             self.take_lots(self.places[command.first])
@@ -73,7 +75,7 @@ class Region:
             )
             raise self.refused(at, why)
 
-    def take_head(self, command, head, at):
+    def take_head(self, command: Any, head: str, at: int) -> None:
         if self.names:
             raise self.refused(at, f"`{head}` stands behind a lot: put it before the first one, or {AT_END}")
         taken = self.dressed if head in DRESSED else self.city
@@ -83,7 +85,7 @@ class Region:
             else:
                 taken += places
 
-    def take_lots(self, places):
+    def take_lots(self, places: List[int]) -> None:
         found = [self.found[at] or unusual(self.lines[at]) for at in places]
         for at, lot in zip(places, found):
             if lot is None:
@@ -96,7 +98,7 @@ class Region:
         for number, column in enumerate(self.columns):
             column += [lot.group(number + 3) for lot in found]
 
-    def grounds(self, reach="0"):
+    def grounds(self, reach: str = "0") -> Tuple[int, List[Box]]:
         """The grounds, with so much more on each side, as boxes over one denominator, which comes first."""
         try:
             one, (*columns, (reach,)) = over_one([*self.columns, [reach]])

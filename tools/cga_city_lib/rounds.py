@@ -1,4 +1,7 @@
 """The next round of a region: what a check found that keeps its jobs from being, together, the region."""
+from pathlib import Path
+from typing import Any, Dict, List, Sequence, Tuple
+
 from .checking import sums, touching_districts
 from .findings import Findings, Lots
 from .halo import Halos, own_counts, traced, unsettled
@@ -6,7 +9,7 @@ from .jobs import SCRIPT
 from .region import Region
 
 
-def outcome(folder, plan, told):
+def outcome(folder: Path, plan: Any, told: Sequence[Any]) -> Tuple[str, Dict[str, int], Dict[str, List[int]]]:
     """A sentence of what was found, which is written down for the next cut, or none; the counts; the bill."""
     if plan.asks() and plan.options.rings:
         traces = traced(folder, plan)
@@ -14,7 +17,7 @@ def outcome(folder, plan, told):
     return put_together(folder, plan, told) if plan.asks() else "", *sums(told)
 
 
-def put_together(folder, plan, told):
+def put_together(folder: Path, plan: Any, told: Sequence[Any]) -> str:
     """Lots of two jobs whose boxes touch stand in one job from now on."""
     pairs = touching_districts(plan, told)
     if not pairs:
@@ -25,7 +28,7 @@ def put_together(folder, plan, told):
     return f"boxes of {len({lot for pair in pairs for lot in pair})} lots touch boxes of other jobs"
 
 
-def grown(folder, plan, halos):
+def grown(folder: Path, plan: Any, halos: Halos) -> str:
     """More rings for lots that see what their neighbours' jobs derive otherwise; in the end their jobs are put together."""
     findings, lots = Findings(folder), Lots(Region(folder / SCRIPT))
     found = unsettled(plan, halos, lots.numbers(findings.rings))
