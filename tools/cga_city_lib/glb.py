@@ -5,6 +5,7 @@ from array import array
 from typing import Any, Dict, List, Optional, Set
 
 FLOAT, INDEX = 5126, 5125  # of 32 bits, as arrays of kind f and I hold them
+KINDS = {"f": FLOAT, "I": INDEX, "H": 5123}
 VERTICES, INDICES = 34962, 34963
 SIZES = {"SCALAR": 1, "VEC2": 2, "VEC3": 3, "VEC4": 4}
 INSTANCING, TRANSFORM = "EXT_mesh_gpu_instancing", "KHR_texture_transform"
@@ -18,6 +19,7 @@ class Glb:
         }
         self.required: Set[str] = set()
         self.used: Set[str] = set()
+        self.extensions: Dict[str, Any] = {}  # of the file as a whole
 
     def add(self, name: str, entry: Dict[str, Any]) -> int:
         """Puts an entry at a list's end, and tells its number there."""
@@ -38,7 +40,7 @@ class Glb:
         width = SIZES[form]
         entry = {
             "bufferView": view,
-            "componentType": FLOAT if values.typecode == "f" else INDEX,
+            "componentType": KINDS[values.typecode],
             "count": len(values) // width,
             "type": form,
         }
@@ -55,6 +57,8 @@ class Glb:
             "scenes": [{"nodes": roots} if roots else {}],
             **{name: entries for name, entries in self.lists.items() if entries},
         }
+        if self.extensions:
+            told["extensions"] = self.extensions
         if self.bytes:
             told["buffers"] = [{"byteLength": len(self.bytes)}]
         for name, names in (("extensionsUsed", self.used | self.required), ("extensionsRequired", self.required)):

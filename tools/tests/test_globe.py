@@ -1,6 +1,7 @@
 """A town back on the globe: places, matrices, CityJSON and KML. Expected numbers are by hand or of published tables."""
 import json
 import math
+import struct
 import unittest
 from unittest import mock
 from xml.etree import ElementTree
@@ -10,7 +11,7 @@ from parcel_maps import CUBES, Called, box, polygon, street
 
 from cga_city_lib import globe
 from cga_city_lib.cityjson import surface_of
-from cga_city_lib.ground_file import Place
+from cga_city_lib.ground_file import Place, read_ground
 from cga_city_lib.mercator import degrees, metres
 
 KML = "{http://www.opengis.net/kml/2.2}"
@@ -145,6 +146,89 @@ class Towns(Called):
             self.assertTrue(
                 8 - 1e-6 < longitude < 8.0002 + 1e-6 and 45 - 1e-6 < latitude < 45.0001 + 1e-6 and height in (0, 3)
             )
+
+    def tile(self, path):
+        """The head of a glTF file, and a function that gives an accessor's numbers, by the words of the specification."""
+        data = path.read_bytes()
+        size = struct.unpack_from("<I", data, 12)[0]
+        told, raw = json.loads(data[20 : 20 + size]), data[28 + size :]
+
+        def numbers(at):
+            one = told["accessors"][at]
+            view, kind = told["bufferViews"][one["bufferView"]], {5126: "f", 5125: "I", 5123: "H"}[one["componentType"]]
+            many = one["count"] * {"SCALAR": 1, "VEC3": 3}[one["type"]]
+            return struct.unpack_from(f"<{many}{kind}", raw, view["byteOffset"])
+
+        def text(column, row):
+            ends, values = (told["bufferViews"][column[word]] for word in ("stringOffsets", "values"))
+            self.assertEqual((ends["byteOffset"] % 8, values["byteOffset"] % 8), (0, 0))
+            a, b = struct.unpack_from("<II", raw, ends["byteOffset"] + 4 * row)
+            return raw[values["byteOffset"] + a : values["byteOffset"] + b].decode()
+
+        return told, numbers, text
+
+    def test_tiles_stand_on_the_globe(self):
+        self.made(".kml", *self.features())
+        path = self.top / "tiles" / "tileset.json"
+        self.assertEqual(called("globe", self.town, self.ground, path), (0, "", ""))
+        root = json.loads(path.read_text())["root"]
+        # the middle of both ends of the street and of the parcels, on the surface of the Earth
+        x, y, z = root["transform"][12:15]
+        self.assertAlmostEqual((x * x + y * y) / 6378137**2 + z * z / 6356752.314245**2, 1, places=9)
+        self.assertEqual([child["content"]["uri"] for child in root["children"]], ["ground.glb", "lots_1.glb"])
+        told, numbers, text = self.tile(path.parent / "lots_1.glb")
+        (part,) = told["meshes"][0]["primitives"]
+        ids = numbers(part["attributes"]["_FEATURE_ID_0"])
+        self.assertEqual((len(ids), set(ids)), (2 * 6 * 4, {0, 1}))
+        normals = list(zip(*[iter(numbers(part["attributes"]["NORMAL"]))] * 3))
+        self.assertEqual(len(set(normals)), 6)
+        indices = part["indices"]
+        self.assertEqual((told["accessors"][indices]["componentType"], len(numbers(indices))), (5123, 2 * 12 * 3))
+        data = told["extensions"]["EXT_structural_metadata"]
+        names = data["schema"]["classes"]["lot"]["properties"]
+        columns = data["propertyTables"][0]["properties"]
+        found = {names[word]["name"]: [text(column, row) for row in (0, 1)] for word, column in columns.items()}
+        self.assertEqual((found["name"], found["zone"], found["storeys"]), (["1/1", "1/2"], ["W2", ""], ["2", ""]))
+        self.assertEqual(sorted(told["extensionsUsed"]), ["EXT_mesh_features", "EXT_structural_metadata"])
+
+    def test_boxes_hold_what_is_drawn(self):
+        self.made(".kml", *self.features())
+        path = self.top / "tileset.json"
+        called("globe", self.town, self.ground, path)
+        for child in json.loads(path.read_text())["root"]["children"]:
+            told, _, _ = self.tile(self.top / child["content"]["uri"])
+            box = child["boundingVolume"]["box"]
+            for one in (one for one in told["accessors"] if "min" in one):
+                # a place (x, y, z) of the file is (x, -z, y) in the tile
+                for k, axis, sign in ((0, 0, 1), (1, 2, -1), (2, 1, 1)):
+                    ends = sorted(sign * one[word][axis] for word in ("min", "max"))
+                    half = box[3 + 4 * k]
+                    self.assertTrue(box[k] - half - 1e-4 <= ends[0] and ends[1] <= box[k] + half + 1e-4)
+
+    def test_a_glb_has_its_place(self):
+        self.assertEqual(self.made(".glb", *self.features()), (0, "", ""))
+        told, _, _ = self.tile(self.out)
+        place = told["nodes"][0]["extras"]["place"]
+        self.assertEqual(
+            (place["system"], place["angle"], place["origin"]),
+            ("EPSG:4326", 0, [place["longitude"], place["latitude"]]),
+        )
+
+    def test_a_set_of_a_region_is_placed(self):
+        self.made(".kml", *self.features())
+        source, other = self.top / "tileset.json", self.top / "globe.json"
+        source.write_text(json.dumps({"root": {"transform": [1, 0, 0, 0, 0, 1, 0, 0, 0, 0, 1, 0, 7, -8, 9, 1]}}))
+        self.assertEqual(called("globe", source, self.ground, other), (0, "", ""))
+        matrix = json.loads(other.read_text())["root"]["transform"]
+        plain = globe.standing(globe.globe_of(read_ground(self.ground).place))
+        for k in range(3):
+            known = plain[12 + k] + 7 * plain[k] - 8 * plain[4 + k] + 9 * plain[8 + k]
+            self.assertAlmostEqual(matrix[12 + k], known, places=6)
+        self.assertIn(
+            "a set names the files beside it", called("globe", source, self.ground, self.top / "x" / "a.json")[2]
+        )
+        source.write_text("[]")
+        self.assertIn("is no tileset.json", called("globe", source, self.ground, other)[2])
 
     def test_where_the_place_is_not_known(self):
         with mock.patch.object(globe, "asked", return_value=None):

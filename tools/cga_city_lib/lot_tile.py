@@ -1,0 +1,138 @@
+"""Some lots of a town as a glTF file of 3D Tiles: flat normals, 16-bit indices where they suffice, and of each vertex its lot and
+symbol, with the lots' names and properties (EXT_mesh_features, EXT_structural_metadata)."""
+import re
+from array import array
+from typing import Any, Dict, Iterable, List, NamedTuple, Sequence, Tuple
+
+from .colours import colour_of
+from .eye import normal
+from .glb import INDICES, VERTICES, Glb
+from .materials import linear
+from .parcel_list import shown
+
+FEATURES, METADATA = "EXT_mesh_features", "EXT_structural_metadata"
+MOST_SHORT = 65_535
+Corner = Tuple[float, float, float]
+
+
+class Face(NamedTuple):
+    lot: int  # its place in the table of lots
+    symbol: int
+    corners: Sequence[Corner]
+
+
+class Mesh:
+    """The triangles of one colour; a face has corners of its own, which share its normal."""
+
+    def __init__(self) -> None:
+        self.places, self.normals = array("f"), array("f")
+        self.lots, self.symbols, self.triangles = array("f"), array("f"), array("I")
+
+    def add(self, face: Face, origin: Corner) -> None:
+        first, up = len(self.lots), normal(*face.corners[:3])
+        for corner in face.corners:
+            self.places.extend(part - start for part, start in zip(corner, origin))
+            self.normals.extend(up)
+            self.lots.append(face.lot)
+            self.symbols.append(face.symbol)
+        for k in range(1, len(face.corners) - 1):
+            self.triangles.extend((first, first + k, first + k + 1))
+
+    def indices(self) -> "array[int]":
+        return array("H", self.triangles) if len(self.lots) <= MOST_SHORT else self.triangles
+
+    def primitive(self, made: Glb, colour: Tuple[int, int, int], counts: Sequence[int]) -> Dict[str, Any]:
+        ids = [{"featureCount": count, "attribute": at, "propertyTable": at} for at, count in enumerate(counts)]
+        return {
+            "attributes": {
+                "POSITION": made.accessor(self.places, "VEC3", VERTICES, has_bounds=True),
+                "NORMAL": made.accessor(self.normals, "VEC3", VERTICES),
+                "_FEATURE_ID_0": made.accessor(self.lots, "SCALAR", VERTICES),
+                "_FEATURE_ID_1": made.accessor(self.symbols, "SCALAR", VERTICES),
+            },
+            "indices": made.accessor(self.indices(), "SCALAR", INDICES),
+            "material": material(made, colour),
+            "extensions": {FEATURES: {"featureIds": ids}},
+        }
+
+
+def material(made: Glb, colour: Tuple[int, int, int]) -> int:
+    factor = [*(linear(part / 255) for part in colour), 1.0]
+    rough = {"baseColorFactor": factor, "metallicFactor": 0.0, "roughnessFactor": 1.0}
+    return int(made.add("materials", {"pbrMetallicRoughness": rough}))
+
+
+def property_id(word: str, taken: Iterable[str]) -> str:
+    """An identifier as the schema takes it."""
+    plain = re.sub(r"\W", "_", word, flags=re.ASCII)
+    plain = plain if re.match(r"[A-Za-z_]", plain) else f"_{plain}"
+    number, found = 1, plain
+    while found in taken:
+        number += 1
+        found = f"{plain}_{number}"
+    return found
+
+
+def aligned(made: Glb, data: bytes) -> int:
+    """A view that begins at a whole number of eight bytes, as property tables want it."""
+    made.bytes += bytes(-len(made.bytes) % 8)
+    return int(made.view(data))
+
+
+def texts(made: Glb, values: Sequence[str]) -> Dict[str, Any]:
+    """A column of texts: their bytes, and where each begins."""
+    raw = [value.encode("utf-8", "replace") for value in values]
+    offsets = [0]
+    for one in raw:
+        offsets.append(offsets[-1] + len(one))
+    held = b"".join(part.to_bytes(4, "little") for part in offsets)
+    return {
+        "values": aligned(made, b"".join(raw) or b"\0"),
+        "stringOffsets": aligned(made, held),
+        "stringOffsetType": "UINT32",
+    }
+
+
+class Table(NamedTuple):
+    """A property table: the class's name, and its columns by their names."""
+
+    name: str
+    columns: Dict[str, List[str]]
+
+    def count(self) -> int:
+        return len(next(iter(self.columns.values()), []))
+
+    def told(self, made: Glb) -> Tuple[Dict[str, Any], Dict[str, Any]]:
+        """The class of the schema, and the table."""
+        ids: Dict[str, str] = {}
+        for word in self.columns:
+            ids[word] = property_id(word, ids.values())
+        kind = {"properties": {ids[word]: {"name": word, "type": "STRING"} for word in self.columns}}
+        columns = {ids[word]: texts(made, values) for word, values in self.columns.items()}
+        return kind, {"class": self.name, "count": self.count(), "properties": columns}
+
+
+def lot_table(names: Sequence[Tuple[str, str, Dict[str, Any]]]) -> Table:
+    """Lots with their names by the map and its properties."""
+    words = dict.fromkeys(word for *_, properties in names for word in properties if word not in ("lot", "name"))
+    columns = {"lot": [lot for lot, *_ in names], "name": [name for _, name, _ in names]}
+    columns.update({word: [shown(properties.get(word)) for *_, properties in names] for word in words})
+    return Table("lot", columns)
+
+
+def lot_tile(faces: Sequence[Face], tables: Sequence[Table], origin: Corner, extras: Dict[str, Any]) -> bytes:
+    """The bytes of the file; places are told from the origin."""
+    made, meshes, symbols = Glb(), {}, tables[1].columns["symbol"]
+    for face in faces:
+        meshes.setdefault(colour_of(symbols[face.symbol]), Mesh()).add(face, origin)
+    counts = [table.count() for table in tables]
+    primitives = [mesh.primitive(made, colour, counts) for colour, mesh in meshes.items()]
+    told = [table.told(made) for table in tables]
+    classes = {table.name: kind for table, (kind, _) in zip(tables, told)}
+    made.used |= {FEATURES, METADATA}
+    made.extensions[METADATA] = {
+        "schema": {"id": "cga_city", "classes": classes},
+        "propertyTables": [table for _, table in told],
+    }
+    node = {"mesh": made.add("meshes", {"primitives": primitives}), **({"extras": extras} if extras else {})}
+    return bytes(made.file([made.add("nodes", node)]))
