@@ -24,6 +24,7 @@ OF_OBJ = set("o g v f vn vt vp s l p usemtl mtllib".split())
 OF_SCRIPT = set(COMMANDS + COMMANDS_2 + BLOCK_WORDS)
 REPLY = re.compile(r"# (ok|refused \w+|stats lots|faults \d+|bill \d+|trace \d+|accepted|rejected)\b")
 RULE = re.compile(r"\d+(\.0+)?[ \t]*:.*->")
+CGA = re.compile(rb"^[ \t]*\w+[ \t]*(\([^()]*\))?[ \t]*-->", re.MULTILINE)
 CALL = "give a script, or the OBJ text that `./cga_city < SCRIPT` prints"
 
 
@@ -53,7 +54,7 @@ def is_binary(data: bytes) -> bool:
 
 def kind_of(data: bytes) -> Optional[str]:
     """`script`, `obj`, or nothing where it is neither."""
-    if is_binary(data):
+    if is_binary(data) or is_cga(data):
         return None
     line = first_line(data)
     if line.split(maxsplit=1)[:1] and line.split()[0] in OF_OBJ:
@@ -62,6 +63,11 @@ def kind_of(data: bytes) -> Optional[str]:
         return "obj"
     word = re.match(r"[A-Za-z]+(?=[ \t#]|$)", line)
     return "script" if word and word.group() in OF_SCRIPT else None
+
+
+def is_cga(data: bytes) -> bool:
+    """Whether a rule stands in it as CityEngine's CGA writes it, by `-->`."""
+    return CGA.search(data) is not None
 
 
 def first_line(data: bytes) -> str:
@@ -80,6 +86,8 @@ def what_else(data: bytes) -> str:
         return "is empty"
     if mark or b"\0" in data[:HEAD]:
         return f"is {mark or 'a binary file'}"
+    if is_cga(data):
+        return "has rules of CityEngine's CGA, of which tools/port makes a script"
     if line[:1] in SIGNS:
         return f"is {SIGNS[line[:1]]}"
     if RULE.match(line):

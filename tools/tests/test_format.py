@@ -88,7 +88,7 @@ class Call(unittest.TestCase):
 
     def test_wrong_files(self) -> None:
         with tempfile.TemporaryDirectory() as folder:
-            for data, why in ((b"Lot --> A\n", "tools/port makes a script of them"), (b"\0\1", "is no text")):
+            for data, why in ((b"Lot --> A\n", "of which tools/port makes a script"), (b"\0\1", "is a binary file")):
                 path = Path(folder) / "x.cga"
                 path.write_bytes(data)
                 status, out, said = called("format", path)

@@ -143,6 +143,7 @@ LOST = [  # CGA, and the comment that tells what was left out or written nearly 
     ('Lot --> i("a.fbx")', '# nearly, line 1: i("a.fbx"): a.fbx is no OBJ file: a box stands for it'),
     ('Lot --> extrude(3) report("m2", geometry.area)', "tools/table --by symbol has the column plan or side of Lot"),
     ("Lot --> extrude(9) comp(f) { 3 : A | top : B }", "# left out, line 1: 3 : ..: a face is front, right, back"),
+    ("Lot --> case touches : A else : B", "# nearly, line 1: touches: a flat shape that only touches a box"),
     ("Lot --> primitiveSphere(9)", "# nearly, line 1: primitiveSphere(9): a box stands for it"),
 ]
 
@@ -248,7 +249,7 @@ class Files(unittest.TestCase):
                 (["gone.cga"], 1, "gone.cga: No such file"),
                 (["none.cga", "none.cga"], 1, "has the rules themselves"),
                 ([], 2, "required: rules"),
-                (["none.cga", "--lot", "0", "3"], 2, "--lot"),
+                (["none.cga", "--lot", "0", "3"], 2, "`0` isn't a length above 0"),
             ):
                 with self.subTest(words):
                     found = called("port", "--program", "/nowhere", *words, folder=folder)

@@ -11,7 +11,7 @@ class Document:
     def __init__(self, uri: str, text: str) -> None:
         self.uri, self.text = uri, text
         self.lines = lines_of(text.encode("utf-8", "replace"))
-        self.commands = commands(self.lines)
+        self.blocks = {at: one for one in commands(self.lines) if one.is_block for at in block(one, self.lines)}
 
     def line(self, at: int) -> str:
         return self.lines[at] if at < len(self.lines) else ""
@@ -48,5 +48,4 @@ class Document:
 
     def block_of(self, at: int) -> Optional[Command]:
         """The command in whose block a line stands."""
-        inside = (command for command in self.commands if command.is_block and at in block(command, self.lines))
-        return next(inside, None)
+        return self.blocks.get(at)

@@ -31,6 +31,7 @@ from .walk import Walk, items_of
 
 START = "@StartRule"
 MOST_VARIANTS = 6
+TOUCHES = "a flat shape that only touches a box isn't answered so: give it a depth before its symbol, by S(1r, 1r, 0.1)"
 COLUMNS = {"geometry.area": "plan or side", "geometry.volume": "volume", "scope.sy": "top"}
 LEAF_FORMS = {"top": "face", "edge": "edge"}
 Variant = Tuple[str, State]
@@ -191,27 +192,28 @@ class Port:
         return self.known.names.of(name if is_free else f"{name}_")
 
     def body_lines(self, context: Context, body: Body, condition: str) -> List[Line]:
-        """A rule of the script for each case."""
+        """A rule of the script for each case, up to one that always holds."""
         if not isinstance(body, Cases):
             return self.plain_lines(context, body, condition)
         found: List[Line] = []
         for asked, inner in body.cases:
-            settled = None if asked is None else self.known.settled(asked)
-            if settled == 0:
-                continue
-            if settled is not None:
-                return found + self.body_lines(context, inner, condition)
-            try:
-                text = (
-                    ""
-                    if asked is None
-                    else context.writer(context.here, context.state.form).condition(asked, bool(condition))
-                )
-            except Lost as fault:
-                self.remarks.lost(inner.line, "case", f"{fault}; this case is left out")
-                continue
-            found += self.body_lines(context, inner, " and ".join(part for part in (condition, text) if part))
+            settled = Fraction(1) if asked is None else self.known.settled(asked)
+            text = self.asked(context, asked, inner.line, condition) if settled is None else ""
+            if settled != 0 and text is not None:
+                found += self.body_lines(context, inner, " and ".join(part for part in (condition, text) if part))
+            if settled is not None and settled != 0:
+                break
         return found
+
+    def asked(self, context: Context, asked: Value, line: int, condition: str) -> Optional[str]:
+        """The text of a condition; nothing where it has no counterpart."""
+        if "touches" in names_in(asked):
+            self.remarks.nearly(line, "touches", TOUCHES)
+        try:
+            return context.writer(context.here, context.state.form).condition(asked, bool(condition))
+        except Lost as fault:
+            self.remarks.lost(line, "case", f"{fault}; this case is left out")
+            return None
 
     def plain_lines(self, context: Context, body: Body, condition: str) -> List[Line]:
         """The rule of one case, behind those for shapes that are too narrow for its split."""
