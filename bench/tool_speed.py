@@ -1,8 +1,8 @@
 #!/usr/bin/env python3
 """Times the tools on a town of 1,000 lots, 154,912 solids: seconds of processor of the tool itself and of the program that it
-runs, and the most memory of each. Each row is a line of a table; a tool is called once with each kind of source.
+runs, and the most memory of each. Each row is a line of a table, and tells the least of some calls.
 
-usage: bench/tool_speed.py [--lots N] [--sources KINDS] [--folder FOLDER] [TOOL ..]
+usage: bench/tool_speed.py [--lots N] [--times N] [--sources KINDS] [--folder FOLDER] [TOOL ..]
 
 KINDS is `script`, `obj` or both with a comma between them. Without a TOOL all are called.
 """
@@ -86,6 +86,7 @@ def sources(lots: int, kinds: List[str], folder: Path) -> Dict[str, Path]:
 def main() -> None:
     known = argparse.ArgumentParser(description=__doc__, formatter_class=argparse.RawDescriptionHelpFormatter)
     known.add_argument("--lots", type=int, default=1000)
+    known.add_argument("--times", type=int, default=3)
     known.add_argument("--sources", default="script,obj")
     known.add_argument("--folder", type=Path)
     known.add_argument("--top", type=Path, default=TOP, help=argparse.SUPPRESS)
@@ -96,7 +97,8 @@ def main() -> None:
         for kind, source in sources(word.lots, word.sources.split(","), Path(folder)).items():
             for tool in word.tools or CALLS:
                 call = [str(source) if part == "TOWN" else part for part in CALLS[tool]]
-                used = spent([os.path.join(word.top, call[0]), *call[1:]], Path(folder))
+                words = [os.path.join(word.top, call[0]), *call[1:]]
+                used = Spent(*map(min, zip(*(spent(words, Path(folder)) for _ in range(word.times)))))
                 print(
                     f"| {tool} | {kind} | {used.seconds:.1f}, {used.programs_seconds:.1f} s "
                     f"| {used.memory:.0f}, {used.programs_memory:.0f} MB |",

@@ -187,6 +187,10 @@ class ByStandIn(Given):
         self.call("picture", self.town, targets[1], "20x15")
         self.assertEqual(*(target.read_bytes() for target in targets))
 
+    def test_a_picture_is_a_png(self):
+        _, said = self.call("picture", "--program", TELLER, self.script, self.top / "town.jpg", status=2)
+        self.assertIn("town.jpg has to end in .png", said)
+
     def test_merged_towns_and_glb(self):
         self.town.write_text("\n".join(of_script(3).lines))
         for tool, ending in (("merge", "obj"), (GLB, "glb")):
