@@ -4,16 +4,21 @@ A lot's node is moved by whole units, which floats of 32 bits hold exactly up to
 """
 import math
 from array import array
+from collections import namedtuple
+from operator import sub
 
 from .corners import Corners, Pattern, pattern_of
 from .forms import FACES_FROM_0
 from .glb import INSTANCING, Glb
 from .instances import Reals
 from .materials import Materials
-from .places import place, quaternion
+from .places import quaternion, stand_of
 from .solids import corners
 
 FINEST = 1e-6  # the least share of a hip's length that its slope takes
+
+# a form as an instance of a mesh in the unit box: the mesh's kind, ridge and share of slope, a quaternion, and three sizes
+Unit = namedtuple("Unit", "mesh turn scale")
 
 
 class Scene:
@@ -23,7 +28,7 @@ class Scene:
         self.names, self.is_instance, self.metres = names, is_instance, float(setting.metres)
         self.offset, self.reals = tuple(map(float, setting.offset)), Reals()
         self.glb = Glb()
-        self.materials, self.units, self.patterns = Materials(self.glb), {}, {}
+        self.materials, self.units, self.patterns, self.forms = Materials(self.glb), {}, {}, {}
 
     def file(self, lots):
         """The bytes of the file of these lots, as pairs of a name and instances."""
@@ -36,18 +41,19 @@ class Scene:
     def lot(self, name, solids):
         once, instances = {}, {}
         for number, solid in enumerate(solids):
-            found = place(name, number, solid) if self.is_instance(solid.symbol) else None
-            if found and all(scale_of(found)):
-                instances.setdefault((solid.symbol, found.kind, found.ridge, slope_of(found)), []).append(found)
+            unit = self.unit_of(name, number, solid[1]) if self.is_instance(solid[0]) else None
+            if unit and all(unit.scale):
+                key = (solid[0], *unit.mesh)
+                instances.setdefault(key, []).append((self.names[name][number], unit, solid[2]))
             else:
-                once.setdefault(solid.symbol, []).append(solid)
+                once.setdefault(solid[0], []).append(solid)
         low = self.low(solids)
         node = {"name": name, "translation": list(low)}
         if once:
             parts = [self.part(symbol, some, low) for symbol, some in once.items()]
             node["mesh"] = self.glb.add("meshes", {"name": name, "primitives": parts})
         if instances:
-            node["children"] = [self.instances(kind, some, low) for kind, some in instances.items()]
+            node["children"] = [self.instances(name, kind, some, low) for kind, some in instances.items()]
         return self.glb.add("nodes", node)
 
     def low(self, solids):
@@ -69,12 +75,20 @@ class Scene:
             found.add(pattern_of(form, self.patterns), self.corner(corner), low)
         return found.primitive(self.glb, self.materials.of(symbol))
 
-    def instances(self, kind, found, low):
+    def unit_of(self, lot, number, form):
+        """What a form is as an instance."""
+        if form not in self.forms:
+            found = stand_of(lot, number, form)
+            mesh = found.kind, found.ridge, slope_of(found)
+            self.forms[form] = Unit(mesh, quaternion(found.axes), scale_of(found))
+        return self.forms[form]
+
+    def instances(self, lot, kind, found, low):
         moves, turns, sizes = array("f"), array("f"), array("f")
-        for each in found:
-            moves.extend(float(part) - off - at for part, off, at in zip(each.corner, self.offset, low))
-            turns.extend(quaternion(each.axes))
-            sizes.extend(scale_of(each))
+        for _, unit, corner in found:
+            moves.extend(map(sub, self.corner(corner), low))
+            turns.extend(unit.turn)
+            sizes.extend(unit.scale)
         self.glb.required.add(INSTANCING)
         attributes = {
             "TRANSLATION": self.glb.accessor(moves, "VEC3"),
@@ -84,10 +98,10 @@ class Scene:
         return self.glb.add(
             "nodes",
             {
-                "name": f"{found[0].lot}.{kind[0]}",
+                "name": f"{lot}.{kind[0]}",
                 "mesh": self.unit(*kind),
                 "extensions": {INSTANCING: {"attributes": attributes}},
-                "extras": {"ids": [self.names[each.lot][each.number] for each in found]},
+                "extras": {"ids": [name for name, _, _ in found]},
             },
         )
 
