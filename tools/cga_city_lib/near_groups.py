@@ -3,6 +3,8 @@ from typing import Any, Iterator, List, Sequence, Tuple
 
 from .rectangle import corners, distance
 
+FEW = 3  # pairs that are told one by one
+
 
 def spans(groups: Sequence[Any], reach: float) -> List[Tuple[Any, ...]]:
     """Each rectangle as a ring, with the place of its group, by where it begins along X."""
@@ -32,7 +34,15 @@ def near_pairs(groups: Sequence[Any], reach: float) -> List[Tuple[Any, Any, floa
 
 
 def sentences(groups: Sequence[Any], reach: float) -> Iterator[str]:
-    for one, two, far, parcel, other in near_pairs(groups, reach):
+    pairs = near_pairs(groups, reach)
+    if len(pairs) > FEW:
+        one, two, _, parcel, other = min(pairs, key=lambda pair: pair[2])
+        yield (
+            f"parcels of {len(pairs):,} pairs of angles come nearer than {2 * reach:g}, and don't see each other by Scope.occ; the "
+            f"nearest are `{parcel.name}` at {one.angle:g} and `{other.name}` at {two.angle:g} degrees; --reach says another distance"
+        )
+        return
+    for one, two, far, parcel, other in pairs:
         how = f"come as near as {far:.2f}" if far >= 0.005 else "touch or overlap"
         yield (
             f"parcels at {one.angle:g} and at {two.angle:g} degrees {how} (`{parcel.name}`, `{other.name}`), and don't see each other "

@@ -298,5 +298,70 @@ class Bills(Written):
                 self.assert_agrees(drawn, bill, Fraction(1, 10**6))
 
 
+class Variants(unittest.TestCase):
+    def setUp(self):
+        folder = tempfile.TemporaryDirectory()
+        self.addCleanup(folder.cleanup)
+        self.top = Path(folder.name)
+
+    def town(self, name, *lots):
+        """A file of cubes: for each lot its name and sizes."""
+        drawn = Drawn()
+        for at, (lot, size) in enumerate(lots):
+            drawn.lot(lot).solid("slab", "cube", (100 * at, 0, 0), size)
+        (self.top / name).write_text("\n".join([*drawn.lines, ""]))
+        return self.top / name
+
+    def rows(self, *words):
+        status, out, said = called("table", *words)
+        self.assertEqual((status, said), (0, ""))
+        return [line.split(",") for line in out.splitlines()]
+
+    def test_two_towns_side_by_side(self):
+        old = self.town("a.obj", ("one", (10, 3, 8)), ("two", (5, 3, 4)), ("three", (1, 1, 1)))
+        new = self.town("b.obj", ("one", (10, 3, 8)), ("two", (5, 6, 2)), ("four", (2, 2, 2)))
+        head, *rows = self.rows(old, new, "--floor", "slab=3")
+        self.assertEqual(head[:5], ["lot", "change", "solids A", "solids B", "solids B - A"])
+        changes = {row[0]: row[1] for row in rows}
+        self.assertEqual(changes, {"one": "same", "two": "changed", "three": "gone", "four": "new", "": "sum"})
+        two = dict(zip(head, rows[1]))
+        # a storey of 20, and two of 10
+        self.assertEqual([two[f"{word} B - A"] for word in ("plan", "volume", "top", "floors")], ["-10", "0", "3", "0"])
+        sums = dict(zip(head, rows[-1]))
+        self.assertEqual([sums[f"top {end}"] for end in "AB"], ["3", "6"])
+        self.assertEqual([sums[f"floors {end}"] for end in "AB"], ["100", "100"])
+
+    def test_limits_by_zone(self):
+        town = self.town("a.obj", ("one", (10, 3, 8)), ("two", (5, 6, 4)), ("three", (1, 9, 1)))
+        parcels = self.top / "list.csv"
+        parcels.write_text("lot,area,limit,zone\none,100,,W2\ntwo,50,4,W2\nthree,10,,W3\n")
+        words = (town, "--parcels", parcels, "--floor", "slab=3", "--limit", "zone=W2:2.5", "--limit", "7")
+        self.assertEqual(
+            self.rows(*words, "--zone", "zone"),
+            [
+                ["zone", "lots", "area", "floors", "ratio", "top", "limit", "lots above", "most above"],
+                ["W2", "2", "150", "120", "0.8", "6", "2.5 to 4", "2", "2"],
+                ["W3", "1", "10", "3", "0.3", "9", "7", "1", "2"],
+            ],
+        )
+        head, *rows = self.rows(*words)
+        self.assertEqual([row[head.index("above")] for row in rows], ["0.5", "2", "2"])
+
+    def test_what_does_not_go_together(self):
+        town = self.town("a.obj", ("one", (10, 3, 8)))
+        parcels = self.top / "list.csv"
+        parcels.write_text("lot,area\none,100\n")
+        for words, told in (
+            ((town, "--zone", "zone"), "say --parcels LIST.csv"),
+            ((town, "--zone", "zone", "--parcels", parcels), "no parcel has the column `zone`"),
+            ((town, town, "--by", "symbol"), "two towns are told lot by lot"),
+        ):
+            status, out, said = called("table", *words)
+            self.assertEqual((status, out), (1, ""))
+            self.assertIn(told, said)
+        for word in ("zone=W2", "x", "zone:3", "=W2:3"):
+            self.assertEqual(called("table", town, "--limit", word)[0], 2)
+
+
 if __name__ == "__main__":
     unittest.main()
