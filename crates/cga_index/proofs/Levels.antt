@@ -13,7 +13,7 @@ use Rattle.cga_index.specs.Occlusion.{join}
 use Rattle.cga_index.specs.Tree.{TreeView, Member, below, all_nodes, InTree, IsHullTree, answer_over, total, open_children, near, reads, visits}
 use Rattle.cga_frame.proofs.Door.{holds_trans, meets_touches, touches_itself, touches_up}
 use Rattle.cga_index.proofs.Members.{in_some, in_flat, in_at, drop_at, drop_all}
-use Rattle.cga_index.proofs.Over.{over_append, over_none, over_apart}
+use Rattle.cga_index.proofs.Over.{over_append, over_none, over_apart, over_unheld}
 
 -- where a level is left, a node and all below it are the node, and its children with all below them, a level less
 pub below_more : (v : TreeView) (n node : ℕ) → 0 < n
@@ -56,6 +56,18 @@ none_below v laws by target m r h f = over_apart v by target (below v m r) (λ n
     let x : true ≡ false = sym yes ∙ f in
     cc)
 
+-- where a node's hull doesn't hold the box, neither it nor what is below it does
+pub none_full : (v : TreeView) → IsHullTree v → (by : ℕ) (target : Target) (m r : ℕ) → InTree v r
+    → holds (v.hull r) (v.own by) ≡ false → answer_over v by target (below v m r) ≡ Full → ⊥
+none_full v laws by target m r h f = over_unheld v by target (below v m r) (λ n w t.
+    let q = reach v laws m r n h w in
+    let x : true ≡ false = sym (holds_trans (v.hull r) (v.own n) (v.own by) q.1 t) ∙ f in
+    cc)
+
+pub unheld : (v : TreeView) (by node : ℕ) (hull area : Box) (held : Bool) → hull ≡ v.hull node → area ≡ v.own by
+    → held ≡ holds hull area → held ≡ false → holds (v.hull node) (v.own by) ≡ false
+unheld v by node hull area held h a e f = rw (← h, ← a) (sym e ∙ f)
+
 -- the steps of the walk
 
 join_assoc : (a b c : Answer) → join (join a b) c ≡ join a (join b c)
@@ -72,14 +84,28 @@ join_nothing Full = refl
 join_nothing Part = refl
 join_nothing Nothing = refl
 
-pub visit_found : (v : TreeView) (by : ℕ) (target : Target) (left node : ℕ) (first rest : Answer) → 0 < left
-    → first ≡ answer_over v by target (node ∷ [])
-    → rest ≡ answer_over v by target (flat_map (below v (left - 1)) (v.children node))
-    → join first rest ≡ answer_over v by target (below v left node)
-visit_found v by target left node first rest h p q =
-    ap (λ t. join t rest) p ∙ ap (join (answer_over v by target (node ∷ []))) q
-    ∙ sym (over_append v by target (node ∷ []) (flat_map (below v (left - 1)) (v.children node)))
-    ∙ ap (answer_over v by target) (sym (below_more v left node h))
+pub visit_found : (v : TreeView) (by : ℕ) (target : Target) (left node : ℕ) (before first rest : Answer) → 0 < left
+    → first ≡ join before (answer_over v by target (node ∷ []))
+    → rest ≡ join first (answer_over v by target (flat_map (below v (left - 1)) (v.children node)))
+    → rest ≡ join before (answer_over v by target (below v left node))
+visit_found v by target left node before first rest h p q =
+    let own = answer_over v by target (node ∷ []) in
+    let under = answer_over v by target (flat_map (below v (left - 1)) (v.children node)) in
+    q ∙ ap (λ t. join t under) p ∙ join_assoc before own under
+    ∙ ap (join before) (sym (over_append v by target (node ∷ []) (flat_map (below v (left - 1)) (v.children node)))
+    ∙ ap (answer_over v by target) (sym (below_more v left node h)))
+
+-- what answers nothing adds nothing
+pub passed_by : (before found : Answer) → found ≡ Nothing → before ≡ join before found
+passed_by before found e = sym (join_nothing before) ∙ ap (join before) (sym e)
+
+-- where something was found, what isn't full adds nothing
+pub held_back : (before found : Answer) → (before ≡ Nothing → ⊥) → (found ≡ Full → ⊥) → before ≡ join before found
+held_back Full found some most = refl
+held_back Part Full some most = absurd (most refl)
+held_back Part Part some most = refl
+held_back Part Nothing some most = refl
+held_back Nothing found some most = absurd (some refl)
 
 -- what a test of a node's hull against the asking box told, where the box was handed in
 pub touched : (v : TreeView) (by node : ℕ) (area : Box) (t seen : Bool) → area ≡ v.own by
@@ -95,23 +121,24 @@ visit_counted v by left node a b c h touch p q =
     omega (arith, p, q, s, reads_more v by left node h)
 
 -- where nobody is below a node, its own answer is that of all from it on
-pub visit_leaf : (v : TreeView) (by : ℕ) (target : Target) (left node : ℕ) (first : Answer) → 0 < left
-    → length (v.children node) ≡ 0 → first ≡ answer_over v by target (node ∷ [])
-    → first ≡ answer_over v by target (below v left node)
-visit_leaf v by target left node first h none p =
+pub visit_leaf : (v : TreeView) (by : ℕ) (target : Target) (left node : ℕ) (before first : Answer) → 0 < left
+    → length (v.children node) ≡ 0 → first ≡ join before (answer_over v by target (node ∷ []))
+    → first ≡ join before (answer_over v by target (below v left node))
+visit_leaf v by target left node before first h none p =
     let e = nil_from_length (v.children node) none in
-    p ∙ ap (λ cs. answer_over v by target (node ∷ flat_map (below v (left - 1)) cs)) (sym e) ∙ ap (answer_over v by target) (sym (below_more v left node h))
+    p ∙ ap (join before) (ap (λ cs. answer_over v by target (node ∷ flat_map (below v (left - 1)) cs)) (sym e) ∙ ap (answer_over v by target) (sym (below_more v left node h)))
 
 pub visit_alone : (v : TreeView) (by left node a b : ℕ) → 0 < left → b ≤ a + cond (nat_eq node by) 0 1
     → b ≤ a + reads v by left node
 visit_alone v by left node a b h p = omega (arith, p, reads_more v by left node h)
 
 -- where the node's own answer is full, so is that of all from it on
-pub visit_full : (v : TreeView) (by : ℕ) (target : Target) (left node : ℕ) (first : Answer) → 0 < left
-    → first ≡ answer_over v by target (node ∷ []) → first ≡ Full → first ≡ answer_over v by target (below v left node)
-visit_full v by target left node first h p full =
+pub visit_full : (v : TreeView) (by : ℕ) (target : Target) (left node : ℕ) (before first : Answer) → 0 < left
+    → first ≡ join before (answer_over v by target (node ∷ [])) → first ≡ Full
+    → first ≡ join before (answer_over v by target (below v left node))
+visit_full v by target left node before first h p full =
     let rest = answer_over v by target (flat_map (below v (left - 1)) (v.children node)) in
-    full ∙ sym (ap (λ t. join t rest) full) ∙ visit_found v by target left node first rest h p refl
+    full ∙ sym (ap (λ t. join t rest) full) ∙ visit_found v by target left node before first (join first rest) h p refl
 
 pub visit_fewer : (v : TreeView) (by left node a b : ℕ) → 0 < left → touches (v.hull node) (v.own by) ≡ true
     → b ≤ a + cond (nat_eq node by) 0 1 → b ≤ a + reads v by left node
@@ -125,15 +152,15 @@ pub full_joined : (before a b : Answer) → before ≡ Full → join before a �
 full_joined before a b full = ap (λ t. join t a) full ∙ sym (ap (λ t. join t b) full)
 
 pub step_found : (v : TreeView) (by : ℕ) (target : Target) (m : ℕ) (cs : List ℕ) (k c : ℕ) (found one whole : Answer)
-    → slice_get cs k ≡ Some c → one ≡ answer_over v by target (below v m c)
+    → slice_get cs k ≡ Some c → one ≡ join found (answer_over v by target (below v m c))
     → whole ≡ join found (answer_over v by target (flat_map (below v m) (drop k cs)))
-    → whole ≡ join (join found one) (answer_over v by target (flat_map (below v m) (drop (k + 1) cs)))
+    → whole ≡ join one (answer_over v by target (flat_map (below v m) (drop (k + 1) cs)))
 step_found v by target m cs k c found one whole e p q =
     let rest = flat_map (below v m) (drop (k + 1) cs) in
     q ∙ ap (λ t. join found (answer_over v by target (flat_map (below v m) t))) (drop_at cs k c e)
     ∙ ap (join found) (over_append v by target (below v m c) rest)
     ∙ sym (join_assoc found (answer_over v by target (below v m c)) (answer_over v by target rest))
-    ∙ ap (λ t. join (join found t) (answer_over v by target rest)) (sym p)
+    ∙ ap (λ t. join t (answer_over v by target rest)) (sym p)
 
 pub step_counted : (f : ℕ → ℕ) (cs : List ℕ) (k c a b whole : ℕ) → slice_get cs k ≡ Some c → b ≤ a + f c
     → a + total f (drop k cs) ≤ whole → b + total f (drop (k + 1) cs) ≤ whole

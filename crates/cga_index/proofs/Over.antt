@@ -1,12 +1,14 @@
 -- Answers over lists of nodes.
-use Rattle.std.proofs.Common.{◌≡◌, ℕ, inl, inr, List, [], ◌∷◌, ◌++◌, map, Bool, true, false, cond, ◌&&◌, ◌||◌, refl, ap, ◌∙◌}
+use Rattle.std.proofs.Common.{◌≡◌, ℕ, inl, inr, List, [], ◌∷◌, ◌++◌, map, Bool, true, false, cond, ◌&&◌, ◌||◌, refl, ap, sym, ◌∙◌}
 use Rattle.std.specs.List.{list_any, filter}
 use Rattle.std.proofs.lemmas.Bool.{cases_Bool as either}
 use Rattle.std.proofs.lemmas.List.{map-append}
 use Rattle.std.proofs.lemmas.List.Folds.{list_any-append}
 use Rattle.std.proofs.lemmas.List.Elements.{filter-append}
 use Rattle.cga_frame.specs.Box.{Box}
-use Rattle.cga_word.specs.declared.answer.Answer.TheVariants.{Nothing}
+use Rattle.cga_word.specs.declared.answer.Answer.{Answer}
+use Rattle.cga_word.specs.declared.answer.Answer.TheVariants.{Nothing, Part, Full}
+use Rattle.cga_fraction.proofs.Door.{and_second}
 use Rattle.cga_word.specs.declared.target.Target.{Target}
 use Rattle.cga_word.specs.declared.target.Target.TheVariants.{Noparent, Active}
 use Rattle.cga_index.specs.declared.standing.Standing.TheVariants.{Hidden}
@@ -40,6 +42,11 @@ over_append v by target xs ys =
     ap (λ t. answer_of (v.own by) (map v.own t)) (filter-append p xs ys)
     ∙ ap (answer_of (v.own by)) (map-append v.own (filter p xs) (filter p ys))
     ∙ of_append (v.own by) (map v.own (filter p xs)) (map v.own (filter p ys))
+
+none_adds : (before found : Answer) → found ≡ Nothing → before ≡ join before found
+none_adds Full found e = refl
+none_adds Part found e = ap (join Part) (sym e)
+none_adds Nothing found e = sym e
 
 -- the answer over one node
 pub over_one_asked : (v : TreeView) (by : ℕ) (target : Target) (n : ℕ) → counts_for target (v.standing n by) ≡ true
@@ -102,3 +109,26 @@ over_apart v by target ns h =
     let e = any_apart v (λ n. counts_for target (v.standing n by)) (λ m. meets m (v.own by)) ns h in
     ap (λ t. graded (list_any (λ m. meets m (v.own by) && holds m (v.own by)) xs) t) e
     ∙ ap (λ t. graded t false) (any_none (λ m. meets m (v.own by)) xs e (λ m. holds m (v.own by)))
+
+graded_not : (a b : Bool) → a ≡ false → graded a b ≡ Full → ⊥
+graded_not true b e = let x : true ≡ false = e in cc
+graded_not false true e = λ f. cc
+graded_not false false e = λ f. cc
+
+-- nodes whose boxes don't hold the box don't answer full
+pub over_unheld : (v : TreeView) (by : ℕ) (target : Target) (ns : List ℕ)
+    → ((n : ℕ) → Member ns n → holds (v.own n) (v.own by) ≡ true → ⊥) → answer_over v by target ns ≡ Full → ⊥
+unfolding answer_over answer_of
+over_unheld v by target ns h =
+    let xs = asked v by target ns in
+    graded_not (list_any (λ m. meets m (v.own by) && holds m (v.own by)) xs) (list_any (λ m. meets m (v.own by)) xs)
+    (any_apart v (λ n. counts_for target (v.standing n by)) (λ m. meets m (v.own by) && holds m (v.own by)) ns (λ n w t. h n w (and_second (meets (v.own n) (v.own by)) (holds (v.own n) (v.own by)) t)))
+
+-- where a node's box adds nothing, nor does its answer, whatever its standing
+pub over_adds : (v : TreeView) (by : ℕ) (target : Target) (n : ℕ) (before : Answer)
+    → before ≡ join before (answer_of (v.own by) (v.own n ∷ []))
+    → before ≡ join before (answer_over v by target (n ∷ []))
+over_adds v by target n before h = elim (either (counts_for target (v.standing n by))) [
+  | inl e ↦ h ∙ ap (join before) (sym (over_one_asked v by target n e))
+  | inr e ↦ none_adds before _ (over_one_other v by target n e)
+]

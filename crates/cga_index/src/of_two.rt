@@ -1,5 +1,5 @@
 //! Two answers taken together.
-ghost use Rattle.std.specs.Prelude.{◌≡◌, true};
+ghost use Rattle.std.specs.Prelude.{◌≡◌, true, false};
 ghost use Rattle.cga_index.specs.Occlusion.{join};
 ghost use Rattle.cga_word.specs.declared.answer.Answer.TheVariants.{Full, Nothing};
 
@@ -30,6 +30,18 @@ pub fn is_full(answer: Answer) -> bool
 /// Whether nothing was found.
 pub fn is_nothing(answer: Answer) -> bool
     ensures nothing { result ≡ true → answer ≡ Nothing }
+    ensures other { answer ≡ Nothing → result ≡ true }
 {
     matches!(answer, Answer::Nothing)
+}
+
+/// Whether what is found may add to what was found before.
+pub(crate) fn adds(before: Answer, found: Answer) -> bool
+    ensures { result ≡ false → before ≡ join before found }
+{
+    match found {
+        Answer::Full => true,
+        Answer::Part => is_nothing(before),
+        Answer::Nothing => false,
+    }
 }

@@ -6,7 +6,7 @@ ghost use Rattle.cga_index.specs.Tree.{IsHullTree, InTree, below, all_nodes, nea
 use crate::compare::compare;
 use crate::hull_tree::HullTree;
 use crate::node_id::NodeId;
-use crate::of_two::{is_full, is_nothing, joined};
+use crate::of_two::{adds, is_full, is_nothing, joined};
 use crate::standing::Standing;
 use crate::steps::{block_end, child_of, root_of};
 use cga_fraction::Tests;
@@ -32,12 +32,32 @@ fn counts_for(target: Target, standing: Standing) -> bool
     }
 }
 
-/// What one node answers. The asking node's box is at hand, and isn't read again. What is hidden at once comes first, and boxes
-/// come before the standing, since few of those that are looked at meet.
-#[tactic(auto, using(crate::proofs::Over::over_one, crate::proofs::Over::over_nothing, crate::proofs::Over::over_hidden))]
+/// What a node's own box answers. The asking node's box is at hand, and isn't read again.
+fn own_answer<H: HullTree, T: Ledger>(
+    tree: &H,
+    node: NodeId,
+    by: NodeId,
+    area: &WorldBox,
+    tests: &mut Tests<T>,
+) -> Answer
+    requires node { InTree (H.view tree.now) node }
+    requires area { area.now ≡ (H.view tree.now).own by }
+    ensures found { result ≡ answer_of ((H.view tree.now).own by) ((H.view tree.now).own node ∷ []) }
+    ensures counted { tests.new ≤ tests.old + cond (nat_eq node by) 0 1 }
+{
+    if node.same(by) {
+        compare(area, area)
+    } else {
+        tree.compares(node, area, tests)
+    }
+}
+
+/// What is found once one node is asked too. What is hidden at once comes first, and boxes come before the standing, since few
+/// of those that are looked at meet. Where something was found, only a full answer adds to it.
 fn look<H: HullTree, T: Ledger>(
     tree: &H,
     node: NodeId,
+    before: Answer,
     by: NodeId,
     target: Target,
     area: &WorldBox,
@@ -46,32 +66,32 @@ fn look<H: HullTree, T: Ledger>(
     requires node { InTree (H.view tree.now) node }
     requires by { InTree (H.view tree.now) by }
     requires area { area.now ≡ (H.view tree.now).own by }
-    ensures found { result ≡ answer_over (H.view tree.now) by target (node ∷ []) }
+    ensures found { result ≡ join before (answer_over (H.view tree.now) by target (node ∷ [])) }
     ensures counted { tests.new ≤ tests.old + cond (nat_eq node by) 0 1 }
 {
     if tree.hides(node, by) {
-        return Answer::Nothing;
+        return before;
     }
-    let found = if node.same(by) {
-        compare(area, area)
-    } else {
-        tree.compares(node, area, tests)
-    };
-    if is_nothing(found) || counts_for(target, tree.standing(node, by)) {
-        found
-    } else {
-        Answer::Nothing
+    let found = own_answer(tree, node, by, area, tests);
+    if !adds(before, found) {
+        return before;
     }
+    if counts_for(target, tree.standing(node, by)) {
+        return joined(before, found);
+    }
+    before
 }
 
-/// What a node and those below it answer: nothing where its hull is apart, before the node itself is looked at, but that one
-/// with nobody below it is looked at at once. Nobody is looked at behind a full answer. `left` bounds the levels from the
-/// node on.
+/// What is found once a node and those below it are asked too. It is what was found before where its hull is apart, before the
+/// node itself is looked at, but that one with nobody below it is looked at at once. Where something was found, only who holds
+/// the asking box adds to it, so that each node is passed by whose hull doesn't. Nobody is looked at behind a full answer.
+/// `left` bounds the levels from the node on.
 #[cycle(visit)]
 fn visit<H: HullTree, T: Ledger>(
     tree: &H,
     node: NodeId,
     left: usize,
+    before: Answer,
     by: NodeId,
     target: Target,
     area: &WorldBox,
@@ -82,29 +102,32 @@ fn visit<H: HullTree, T: Ledger>(
     requires by { InTree (H.view tree.now) by }
     requires area { area.now ≡ (H.view tree.now).own by }
     requires left { left + (H.view tree.now).depth node ≡ 257 }
-    ensures found { result ≡ answer_over (H.view tree.now) by target (below (H.view tree.now) left node) }
+    ensures found { result ≡ join before (answer_over (H.view tree.now) by target (below (H.view tree.now) left node)) }
     ensures counted { tests.new ≤ tests.old + reads (H.view tree.now) by left node }
 {
     if tree.children(node) == 0 {
-        return look(tree, node, by, target, area, tests);
+        return look(tree, node, before, by, target, area, tests);
     }
     if !tree.touches(node, area) {
-        return Answer::Nothing;
+        return before;
     }
-    let first = look(tree, node, by, target, area, tests);
+    if !is_nothing(before) && !tree.hull(node).holds(area) {
+        return before;
+    }
+    let first = look(tree, node, before, by, target, area, tests);
     if is_full(first) {
         return first;
     }
-    let rest = visit_children(tree, node, left - 1, by, target, area, tests);
-    joined(first, rest)
+    visit_children(tree, node, left - 1, first, by, target, area, tests)
 }
 
-/// What those below a node answer. `left` bounds their levels.
+/// What is found once those below a node are asked too. `left` bounds their levels.
 #[cycle(visit)]
 fn visit_children<H: HullTree, T: Ledger>(
     tree: &H,
     node: NodeId,
     left: usize,
+    before: Answer,
     by: NodeId,
     target: Target,
     area: &WorldBox,
@@ -115,14 +138,13 @@ fn visit_children<H: HullTree, T: Ledger>(
     requires by { InTree (H.view tree.now) by }
     requires area { area.now ≡ (H.view tree.now).own by }
     requires left { left + (H.view tree.now).depth node ≡ 256 }
-    ensures found { result ≡ answer_over (H.view tree.now) by target (flat_map (below (H.view tree.now) left) ((H.view tree.now).children node)) }
+    ensures found { result ≡ join before (answer_over (H.view tree.now) by target (flat_map (below (H.view tree.now) left) ((H.view tree.now).children node))) }
     ensures counted { tests.new ≤ tests.old + total (reads (H.view tree.now) by left) ((H.view tree.now).children node) }
 {
-    let mut found = Answer::Nothing;
+    let mut found = before;
     for place in 0..tree.children(node) {
         let child = child_of(tree, node, place);
-        let inner = visit(tree, child, left, by, target, area, tests);
-        found = joined(found, inner);
+        found = visit(tree, child, left, found, by, target, area, tests);
         if is_full(found) {
             return found;
         }
@@ -158,8 +180,7 @@ fn visit_block<H: HullTree, T: Ledger>(
     let mut found = before;
     for place in from..block_end(from, roots) {
         let root = root_of(tree, place);
-        let inner = visit(tree, root, 257, by, target, area, tests);
-        found = joined(found, inner);
+        found = visit(tree, root, 257, found, by, target, area, tests);
         if is_full(found) {
             return found;
         }

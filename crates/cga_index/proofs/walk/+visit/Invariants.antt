@@ -13,5 +13,5 @@ decreases-visit_children g l = 2 * l.left + 1
 abbrev pub invariant-visit_children-loop-place : goal.invariant-visit_children-loop-place
 invariant-visit_children-loop-place g l =
     let v = g.H.HullTree.view l.tree in
-    (answer_over v l.by l.target (flat_map (below v l.left) (v.children l.node)) ≡ join l.found (answer_over v l.by l.target (flat_map (below v l.left) (drop l.place (v.children l.node)))))
+    (join l.fn.before (answer_over v l.by l.target (flat_map (below v l.left) (v.children l.node))) ≡ join l.found (answer_over v l.by l.target (flat_map (below v l.left) (drop l.place (v.children l.node)))))
     × (l.tests + total (reads v l.by l.left) (drop l.place (v.children l.node)) ≤ l.fn.tests + total (reads v l.by l.left) (v.children l.node))

@@ -19,8 +19,8 @@ pub loop-place-preserved : goal.loop-place-preserved
 loop-place-preserved g c =
     let v = g.H.HullTree.view c.args.tree.now in
     let inv = c.loop-place.invariant in (
-      rw c.joined-found.ensures (step_found v c.args.by c.args.target 257 v.roots c.loop-place.place c.root_of-root.result c.loop-place.found c.visit-inner.result _ c.root_of-root.ensures.at c.visit-inner.ensures.found inv.0),
-      step_counted (reads v c.args.by 257) v.roots c.loop-place.place c.root_of-root.result c.loop-place.tests _ _ c.root_of-root.ensures.at c.visit-inner.ensures.counted inv.1,
+      step_found v c.args.by c.args.target 257 v.roots c.loop-place.place c.root_of-root.result c.loop-place.found c.visit-found.result _ c.root_of-root.ensures.at c.visit-found.ensures.found inv.0,
+      step_counted (reads v c.args.by 257) v.roots c.loop-place.place c.root_of-root.result c.loop-place.tests _ _ c.root_of-root.ensures.at c.visit-found.ensures.counted inv.1,
     )
 
 pub returns-clause-found : goal.returns-clause-found
@@ -53,9 +53,9 @@ pub returns-then-is_full-2-clause-found : goal.returns-then-is_full-2-clause-fou
 returns-then-is_full-2-clause-found g c =
     let v = g.H.HullTree.view c.args.tree.now in
     let inv = c.loop-place.invariant in
-    rw c.joined-found.ensures (step_found v c.args.by c.args.target 257 v.roots c.loop-place.place c.root_of-root.result
-    c.loop-place.found c.visit-inner.result _ c.root_of-root.ensures.at c.visit-inner.ensures.found inv.0)
-    ∙ full_joined c.joined-found.result (answer_over v c.args.by c.args.target (flat_map (below v 257) (drop (c.loop-place.place + 1) v.roots)))
+    step_found v c.args.by c.args.target 257 v.roots c.loop-place.place c.root_of-root.result
+    c.loop-place.found c.visit-found.result _ c.root_of-root.ensures.at c.visit-found.ensures.found inv.0
+    ∙ full_joined c.visit-found.result (answer_over v c.args.by c.args.target (flat_map (below v 257) (drop (c.loop-place.place + 1) v.roots)))
     (answer_over v c.args.by c.args.target (flat_map (below v 257) (drop (16 * (c.args.block + 1)) v.roots))) (c.is_full-in-loop-place.ensures.full c.if-is_full-2.true)
 
 pub returns-then-is_full-2-clause-counted : goal.returns-then-is_full-2-clause-counted
@@ -65,11 +65,11 @@ returns-then-is_full-2-clause-counted g c =
     let here = c.loop-place-test.true in
     let most = c.block_end-place-end.ensures.most in
     let left = 16 * (c.args.block + 1) - (c.loop-place.place + 1) in
-    let more = run_counted (reads v c.args.by 257) v.roots (c.loop-place.place + 1) left (16 * (c.args.block + 1)) c.visit-inner.new.tests
+    let more = run_counted (reads v c.args.by 257) v.roots (c.loop-place.place + 1) left (16 * (c.args.block + 1)) c.visit-found.new.tests
     (omega (arith, here, most)) in
     omega (
       arith,
       more,
       step_counted (reads v c.args.by 257) v.roots c.loop-place.place c.root_of-root.result c.loop-place.tests _ _
-          c.root_of-root.ensures.at c.visit-inner.ensures.counted inv.1,
+          c.root_of-root.ensures.at c.visit-found.ensures.counted inv.1,
     )
