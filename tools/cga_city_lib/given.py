@@ -25,6 +25,7 @@ OF_SCRIPT = set(COMMANDS + COMMANDS_2 + BLOCK_WORDS)
 REPLY = re.compile(r"# (ok|refused \w+|stats lots|faults \d+|bill \d+|trace \d+|accepted|rejected)\b")
 RULE = re.compile(r"\d+(\.0+)?[ \t]*:.*->")
 CGA = re.compile(rb"^[ \t]*\w+[ \t]*(\([^()]*\))?[ \t]*-->", re.MULTILINE)
+OPENS = re.compile(rb"^[ \t]*(rules|city)[ \t\r]*(#.*)?$", re.MULTILINE)
 CALL = "give a script, or the OBJ text that `./cga_city < SCRIPT` prints"
 
 
@@ -66,8 +67,8 @@ def kind_of(data: bytes) -> Optional[str]:
 
 
 def is_cga(data: bytes) -> bool:
-    """Whether a rule stands in it as CityEngine's CGA writes it, by `-->`."""
-    return CGA.search(data) is not None
+    """Whether a rule stands in it as CityEngine's CGA writes it, by `-->`, and no block is opened."""
+    return CGA.search(data) is not None and OPENS.search(data) is None
 
 
 def first_line(data: bytes) -> str:

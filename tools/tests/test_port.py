@@ -207,6 +207,13 @@ class Files(unittest.TestCase):
                 self.assertIn("# left out, line ", text)
                 self.assertIn("0 refused, 0 shapes came to nothing", said[-2])
 
+    def test_other_tools_name_this_one(self) -> None:
+        for tool, status in (("lint", 2), ("table", 1), ("explain", 1), ("format", 2)):
+            words = [CGA / "haussmann.cga", *["a"] * (tool == "explain")]
+            found = called(tool, *words)
+            self.assertEqual((found[0], found[2].count("\n")), (status, 1))
+            self.assertIn("has rules of CityEngine's CGA, of which tools/port makes a script", found[2])
+
     def test_a_mesh_becomes_an_asset(self) -> None:
         text = script(CGA.joinpath("haussmann.cga").read_text(encoding="utf-8")).text()
         mesh = (CGA / "assets" / "window.obj").read_text(encoding="utf-8")
