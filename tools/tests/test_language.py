@@ -1,5 +1,6 @@
 """What the language server tells an editor."""
 import sys
+import tempfile
 import unittest
 from pathlib import Path
 
@@ -144,6 +145,15 @@ class Towns(unittest.TestCase):
         faults = findings(Document(URI, TEXT), Runs(DEFINE))
         self.assertEqual([(one["severity"], one["code"]) for one in faults], [(2, "FlatScope")])
         self.assertIn("what helps: depth before it", faults[0]["message"])
+
+    def test_all_errors_of_a_block(self) -> None:
+        """Two slips, in a script that is quiet; by a program that may be asked again."""
+        text = 'quiet\nrules\n1: a -> b\n2: b -> I("hop")\n3: c -> S(1r, h, 1r) b\nend\nlot x 1 0 0 1 1 a\n'
+        with tempfile.TemporaryDirectory() as folder:
+            program = Path(folder) / "program"
+            program.symlink_to(DEFINE)
+            found = findings(Document(URI, text), Runs(str(program)))
+        self.assertEqual([one["range"]["start"]["line"] for one in found if one["severity"] == 1], [3, 4])
 
 
 class Talk(unittest.TestCase):

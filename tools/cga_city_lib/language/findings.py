@@ -62,7 +62,7 @@ def findings(document: Document, runs: Runs) -> List[Dict]:
     if len(asked) != len(answers):
         return []
     faults = answers[-1][1:] if asks else []
-    report = Report(NAME, document.lines, asked, answers, ways(runs.program, lines, faults), runs.asking())
+    report = Report(NAME, lines, asked, answers, ways(runs.program, lines, faults), runs.asking())
     return listed(document, list(report.lines_for(faults)))
 
 
