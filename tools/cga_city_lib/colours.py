@@ -62,6 +62,8 @@ def read(path):
     """The looks that a file of colours tells."""
     try:
         told = json.loads(path.read_text(encoding="utf-8"))
+    except UnicodeDecodeError:
+        raise Refused(f'{path} isn\'t text in UTF-8: colours are a JSON file, such as {{"roof": "aa523c"}}') from None
     except ValueError as fault:
         raise Refused(f"{path} is no JSON: {fault}") from None
     if not isinstance(told, dict):

@@ -1,15 +1,22 @@
 """Values of words that several tools for drawings and tables take; a wrong one is a ValueError, as argparse wants it."""
+import argparse
 from typing import Tuple
 
 from .drawing import FAR, Point
+from .strangers_text import told
 from .table_rows import fraction_word
 
 
 def line(word: str) -> Tuple[Point, Point]:
     """X,Z,X,Z as two points that differ."""
-    numbers = [float(part) for part in word.split(",")]
-    if len(numbers) != 4 or not all(abs(number) < FAR for number in numbers) or numbers[:2] == numbers[2:]:
-        raise ValueError
+    try:
+        numbers = [float(part) for part in word.split(",")]
+    except ValueError:
+        numbers = []
+    if len(numbers) != 4 or not all(abs(number) < FAR for number in numbers):
+        raise argparse.ArgumentTypeError(f"`{told(word)}` isn't X,Z,X,Z, such as 0,4,20,4: two points as four numbers")
+    if numbers[:2] == numbers[2:]:
+        raise argparse.ArgumentTypeError(f"`{told(word)}` is a line of no length: give two points that differ")
     return (numbers[0], numbers[1]), (numbers[2], numbers[3])
 
 

@@ -36,7 +36,7 @@ def written(path, **text):
     target = os.path.realpath(path)
     new = f"{target}.{os.getpid()}.new"
     try:
-        with naming(path), open(new, mode, **text) as file:
+        with naming(path, new), open(new, mode, **text) as file:
             if old:
                 os.chmod(new, stat.S_IMODE(old.st_mode))
             yield file
@@ -52,12 +52,13 @@ def is_written_into(path, old):
 
 
 @contextmanager
-def naming(path):
-    """Where a disk is full, the system doesn't say for which file."""
+def naming(path, part=None):
+    """Where a disk is full, the system doesn't say for which file; and a part is named as the file that it is to become."""
     try:
         yield
     except OSError as fault:
-        fault.filename = fault.filename or str(path)
+        if fault.filename in (None, part):
+            fault.filename = str(path)
         raise
 
 

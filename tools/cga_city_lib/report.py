@@ -9,14 +9,13 @@ from .follows import Follows
 from .notes import by_symbol, notes
 from .replies import is_refused
 from .retried import Retried
-from .script import rule_of, tokens
+from .script import NO_BLOCK, rule_of, tokens
 from .standing import block, standing
 from .strangers_text import shown
 
 REFUSED = re.compile(r"# refused (\w+) ?(.*)")
 PLACE = re.compile(r"at (?:(\d+):)?(\d+)")
 WIDEST = 300
-NO_BLOCK = "rules stand in a block: write a line `rules` before this one, and a line `end` behind the rules"
 
 
 def readable(text):

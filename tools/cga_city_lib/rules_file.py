@@ -3,7 +3,7 @@ from pathlib import Path
 from typing import Any, List, Tuple, Union
 
 from .call import Refused
-from .script import LONGEST, commands, is_open, is_version, lines_of, rule_of, words_of
+from .script import LONGEST, NO_BLOCK, commands, is_open, is_version, lines_of, rule_of, without_block, words_of
 from .strangers_text import told
 
 KEPT = "rules put drop attr priority order asset dress undress".split()
@@ -41,6 +41,8 @@ class Rules:
                 command,
                 "write the rules as a block from `rules` to `end`"
                 if head == "city"
+                else NO_BLOCK
+                if without_block(lines) is not None
                 else f"`{told(head)}` can't stand among rules for parcels; tools/lint says what else is wrong",
             )
         if is_open(command, ["version 2"] + lines):

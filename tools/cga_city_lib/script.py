@@ -8,6 +8,7 @@ COMMANDS_2 = "order city dump undo redo asset dress undress model bill trace jud
 BLOCK_WORDS = "PRIORITY end version breadth depth".split()
 EDITS = "rules put drop attr priority lot unlot order city asset dress undress".split()
 LONGEST = 4096
+NO_BLOCK = "rules stand in a block: write a line `rules` before this one, and a line `end` behind the rules"
 
 TOKEN = re.compile(r'\d+(?:\.\d+)?r?(?![A-Za-z_])|[A-Za-z_]\w*|"\w*"|->|==|!=|<=|>=|[^ \t]', re.ASCII)
 NAME = re.compile(r"[A-Za-z_]\w*", re.ASCII)

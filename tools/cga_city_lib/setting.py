@@ -1,4 +1,5 @@
 """Where a town is set in another program: what is taken off its coordinates, and how long its unit is."""
+import argparse
 import math
 from collections import namedtuple
 from decimal import Decimal, InvalidOperation
@@ -6,6 +7,7 @@ from decimal import Decimal, InvalidOperation
 from .call import Refused
 from .instances import box_of
 from .numerals import plain
+from .strangers_text import told as told_word
 
 FAR = 10_000  # farther out, floats of 32 bits are apart by more than a thousandth
 STEP = 1_000
@@ -24,7 +26,7 @@ def number(text):
     except InvalidOperation:
         value = Decimal("nan")
     if not value.is_finite():
-        raise ValueError
+        raise argparse.ArgumentTypeError(f"`{told_word(text)}` isn't a number: --offset takes three, and --metres one")
     return value
 
 

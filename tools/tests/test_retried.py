@@ -86,7 +86,7 @@ class Retried(unittest.TestCase):
 
     def test_rules_without_a_block(self):
         heads, said = self.lint("# mine\nattr h = 3\n1: a -> S(1r, k, 1r) b\n2: c -> d\nlot x 1 0 0 1 1 a\nprint\n")
-        self.assertEqual(heads[1:], ["3 UnknownName", "4 UnknownSymbol"])
+        self.assertEqual(heads[1:], ["3 UnknownName", "3 UnknownSymbol", "4 UnknownSymbol"])
         self.assertIn(":2:1: rules stand in a block: write a line `rules` before this one", said)
 
     def test_what_cannot_be_mended(self):
