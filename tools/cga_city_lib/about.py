@@ -1,5 +1,5 @@
 """What a page is told of a script beside its town: colours, attributes, and the rules that draw."""
-from .colours import colour_of
+from .colours import shade_of
 from .script import rule_of, words_of
 
 
@@ -28,7 +28,7 @@ def rules_that_draw(lines, found):
 
 def colours(lines, found):
     symbols = {rule[1] for rule in (rule_of(lines[at]) for at in lines_with_rules(lines, found)) if rule}
-    return {symbol: colour_of(symbol) for symbol in sorted(symbols)}
+    return {symbol: shade_of(symbol) for symbol in sorted(symbols)}
 
 
 def head_of(lines, found, answers):

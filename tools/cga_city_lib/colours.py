@@ -1,8 +1,9 @@
 """A colour and perhaps a texture for each symbol, the same in each tool: from colours.json, and from a file of one's own.
 
 A file of one's own is a JSON object that CGA_COLOURS names. A key is a symbol or a word in one, and its value a colour, as
-"d6c4a4", or an object: {"colour": "b0695a", "texture": "brick.jpg", "size": [2.4, 1.2]}. The texture lies beside the file,
-and its size is the width and height in the town's unit that it covers; 1 by 1 if none is said.
+"d6c4a4", or an object: {"colour": "b0695a", "material": "brick", "texture": "brick.jpg", "size": [2.4, 1.2]}. The texture lies
+beside the file, and its size is the width and height in the town's unit that it covers; 1 by 1 if none is said. The material
+is how the page draws the surface.
 """
 import colorsys
 import json
@@ -19,7 +20,10 @@ VARIABLE = "CGA_COLOURS"
 KNOWN = Path(__file__).parent / "colours.json"
 SHORTEST_PART = 4  # so that a ship has no hip
 
-Look = namedtuple("Look", "colour texture size")  # red, green and blue, 0 to 255; a path or none; width and height
+MATERIALS = "plain plaster brick glass tile metal wood stone lawn water window".split()  # as the page numbers them
+
+# red, green and blue, 0 to 255; a path or none; width and height; the name of a material
+Look = namedtuple("Look", "colour texture size material")
 
 
 def look_of(symbol):
@@ -30,6 +34,12 @@ def look_of(symbol):
 def colour_of(symbol):
     """Red, green and blue, 0 to 255."""
     return look_of(symbol).colour
+
+
+def shade_of(symbol):
+    """Red, green and blue, and the number of the material."""
+    look = look_of(symbol)
+    return [*look.colour, MATERIALS.index(look.material)]
 
 
 class Looks:
@@ -44,7 +54,7 @@ class Looks:
             known = self.word(word)
             if known:
                 return self.words[known]
-        return Look(colour_by_bytes(symbol), None, (1.0, 1.0))
+        return Look(colour_by_bytes(symbol), None, (1.0, 1.0), "plain")
 
     def word(self, word):
         """The known word that this one is or is the plural of, else one that it ends with, else the longest that is in it."""
@@ -73,8 +83,8 @@ def read(path):
 
 def look(path, name, entry):
     entry = {"colour": entry} if isinstance(entry, str) else entry
-    if not isinstance(entry, dict) or set(entry) - {"colour", "texture", "size"}:
-        raise Refused(f'{path}: "{name}" has a colour, or an object with colour, texture and size')
+    if not isinstance(entry, dict) or set(entry) - {"colour", "material", "texture", "size"}:
+        raise Refused(f'{path}: "{name}" has a colour, or an object with colour, texture and size, and a material')
     colour, texture, size = entry.get("colour", "ffffff"), entry.get("texture"), entry.get("size", [1, 1])
     if not (isinstance(colour, str) and re.fullmatch("#?[0-9a-fA-F]{6}", colour)):
         raise Refused(f'{path}: the colour of "{name}" has to be six hexadecimal digits, as "aa523c"')
@@ -82,8 +92,11 @@ def look(path, name, entry):
         raise Refused(f'{path}: the texture of "{name}" has to be the name of a picture beside the file')
     if not (isinstance(size, list) and len(size) == 2 and all(is_length(part) for part in size)):
         raise Refused(f'{path}: the size of "{name}" has to be a width and a height above 0, as [2.4, 1.2]')
+    material = entry.get("material", "plain")
+    if material not in MATERIALS:
+        raise Refused(f'{path}: the material of "{name}" has to be one of {", ".join(MATERIALS)}')
     place = None if texture is None else path.parent / texture
-    return Look(tuple(bytes.fromhex(colour.lstrip("#"))), place, tuple(map(float, size)))
+    return Look(tuple(bytes.fromhex(colour.lstrip("#"))), place, tuple(map(float, size)), material)
 
 
 def is_length(part):

@@ -5,46 +5,51 @@ import zlib
 from pathlib import Path
 from urllib.parse import unquote
 
-from .colours import colour_of
+from .colours import shade_of
 from .drawn import Meshes
 from .shown import Shown
 
 VIEWER = Path(__file__).parent / "viewer"
 SCRIPTS = [
     "gl",
+    "camera",
     "meshes",
     "town",
     "buffers",
+    "light",
+    "materials",
     "shaders",
-    "camera",
     "picking",
     "glb_file",
     "tileset",
     "tiles",
     "tile_parts",
     "draw",
+    "refine",
+    "views",
     "panel",
+    "scenes",
     "hands",
     "follow",
 ]
 
 
 def colours_of(lines):
-    """The colour of each symbol in lines that tell instances, by the symbol as it stands there."""
-    return {symbol: colour_of(unquote(symbol)) for symbol in {line.split(" ", 2)[1] for line in lines}}
+    """The colour and the material of each symbol in lines that tell instances, by the symbol as it stands there."""
+    return {symbol: shade_of(unquote(symbol)) for symbol in {line.split(" ", 2)[1] for line in lines}}
 
 
-def data_of(town, title):
-    """What the page is given of a town that doesn't change."""
+def data_of(town, title, **head):
+    """What the page is given of a town that doesn't change, and of what a script's comments keep for it."""
     meshes = Meshes()
     lines = meshes.lines(town)
-    return packed(title, lines, meshes.told)
+    return packed(title, lines, meshes.told, **head)
 
 
-def packed(title, lines, meshes):
+def packed(title, lines, meshes, **head):
     """What a page is told of lines that tell instances, as a preview tells it, packed and in letters."""
     shown = Shown(title)
-    shown.replace((line.encode() for line in lines), meshes=meshes, colours=colours_of(lines))
+    shown.replace((line.encode() for line in lines), meshes=meshes, colours=colours_of(lines), **head)
     return {"packed": base64.b64encode(zlib.compress(shown.after(""))).decode("ascii")}
 
 

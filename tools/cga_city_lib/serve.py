@@ -25,7 +25,19 @@ def values_of(data):
     )
 
 
-def handler(shown, turn):
+def words_of(data):
+    """The words that a page sends to be kept in the script, or None where it isn't that."""
+    try:
+        told = json.loads(data)
+    except ValueError:
+        return None
+    return told if isinstance(told, dict) and all(isinstance(value, str) for value in told.values()) else None
+
+
+def handler(shown, watch):
+    # each with what reads the words of its address, and what does them and says what is wrong
+    posts = {"/set": (values_of, watch.turn), "/keep": (words_of, watch.keep)}
+
     class Handler(BaseHTTPRequestHandler):
         protocol_version = "HTTP/1.1"
 
@@ -44,19 +56,16 @@ def handler(shown, turn):
 
         def do_POST(self):
             size = self.headers["Content-Length"] or ""
-            if not (
-                self.is_own("Host")
-                and self.is_own("Origin")
-                and self.path == "/set"
-                and size.isdigit()
-                and int(size) <= MOST
-            ):
+            is_known = self.is_own("Host") and self.is_own("Origin") and self.path in posts
+            if not (is_known and size.isdigit() and int(size) <= MOST):
                 self.close_connection = True
                 return self.answer(404, b"")
-            values = values_of(self.rfile.read(int(size)))
-            if values is not None:
-                turn(values)
-            self.answer(404 if values is None else 200, b"")
+            read, does = posts[self.path]
+            told = read(self.rfile.read(int(size)))
+            if told is None:
+                return self.answer(404, b"")
+            wrong = does(told) or ""
+            self.answer(409 if wrong else 200, wrong.encode(), "text/plain; charset=utf-8")
 
         def answer(self, status, body, kind="text/plain"):
             try:
@@ -80,11 +89,11 @@ class Server(ThreadingHTTPServer):
         pass  # a browser that goes away in the middle is no fault
 
 
-def server(port, shown, turn):
+def server(port, shown, watch):
     """A server at that port, or at 8017 or else a free one."""
     for wanted in [port] if port is not None else [8017, 0]:
         try:
-            return Server(("127.0.0.1", wanted), handler(shown, turn))
+            return Server(("127.0.0.1", wanted), handler(shown, watch))
         except OSError as fault:
             problem = fault.strerror
     raise Refused(f"port {port}: {problem}")

@@ -2,12 +2,13 @@
 import os
 import threading
 import time
+from pathlib import Path
 
-from . import about
+from . import about, files, kept_views
 from .call import Refused
 from .pipe import Ended
 from .report import Report
-from .script import commands, lines_of
+from .script import commands, lines_of, text_of
 
 GONE = "the file is gone; the town is that of its last save"
 EMPTY = "the file is empty, so there is no town"
@@ -27,6 +28,23 @@ class Watch:
     def turn(self, values):
         self.wanted = {**self.wanted, **values}
         self.woken.set()
+
+    def keep(self, words):
+        """Writes a camera into the script; what is wrong with it, or nothing."""
+        name, place = words.get("camera", ""), words.get("words", "")
+        if not kept_views.CAMERA.fullmatch(f"# camera {name} {place}"):
+            return f"{name}: a name has letters, digits and underscores alone, and 32 of them at most"
+        return self.rewrite(lambda lines: kept_views.with_camera(lines, name, place))
+
+    def rewrite(self, change):
+        """Changes the lines of the script's file; what is wrong, or nothing."""
+        try:
+            with open(self.path, "rb") as file:
+                lines = lines_of(file.read())
+            files.write(Path(os.path.realpath(self.path)), text_of(change(lines)))
+        except OSError as fault:
+            return f"{self.path}: {fault.strerror}"
+        return ""
 
     def run(self):
         while True:
@@ -86,7 +104,8 @@ class Watch:
         answers, faults = self.town.show(lines, found)
         report = Report(self.path, lines, found, answers)
         said = report.lines_for(faults) if report.refused or faults else [] if found else [f"{self.path}: {EMPTY}"]
-        head = {} if report.refused else about.head_of(lines, found, answers)
+        said += [f"{self.path}:{number}: {text}" for number, text in kept_views.unread(lines)]
+        head = {} if report.refused else {**about.head_of(lines, found, answers), **kept_views.head_of(lines)}
         self.town.publish(
             said="\n".join(said),
             is_busy=False,

@@ -183,8 +183,8 @@ class ByStandIn(Given):
         one, other = self.both("plan", "--title", "x")
         self.assertEqual(one, other)
         targets = self.top / "script.png", self.top / "obj.png"
-        self.call("picture", "--program", TELLER, self.script, targets[0], "20x15")
-        self.call("picture", self.town, targets[1], "20x15")
+        self.call("picture", "--program", TELLER, self.script, targets[0], "20x15", "--by", "python")
+        self.call("picture", self.town, targets[1], "20x15", "--by", "python")
         self.assertEqual(*(target.read_bytes() for target in targets))
 
     def test_a_picture_is_a_png(self):

@@ -96,7 +96,7 @@ class Files(Grounds):
             self.ground.write_text(text)
             for words in (
                 ("plan", self.town),
-                ("picture", self.town, self.top / "p.png", "40x30"),
+                ("picture", self.town, self.top / "p.png", "40x30", "--by", "python"),
                 ("view", self.town, self.top / "p.html"),
             ):
                 status, out, said = called(*words, "--ground", self.ground)
@@ -158,8 +158,10 @@ class Drawn(Grounds):
         self.assertEqual(called("view", self.town, page, "--ground", self.ground)[0], 0)
         packed = re.search(r'"packed": "([^"]+)"', page.read_text()).group(1)
         self.assertIn(b'"street"', zlib.decompress(base64.b64decode(packed)))
-        status, _, said = called("picture", self.town, self.top / "p.png", "60x40", "--ground", self.ground)
-        self.assertEqual((status, said), (0, ""))
+        status, _, said = called(
+            "picture", self.town, self.top / "p.png", "60x40", "--by", "python", "--ground", self.ground
+        )
+        self.assertEqual((status, said), (0, f"picture: {self.top / 'p.png'}: drawn by Python\n"))
 
     def test_far_streets_are_cut(self):
         ground = self.made(box(500000, 5000010, 20, 10, symbol="yard"), line([490000, 5000000], [510000, 5000000]))

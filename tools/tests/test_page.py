@@ -66,6 +66,18 @@ class Data(unittest.TestCase):
         self.assertEqual(list(state.drawn()), ["a wall mesh0 0 0 0 +X+Y+Z 1 1 1"])
 
 
+def contrast(one, other):
+    """Of two colours, by WCAG."""
+
+    def light(colour):
+        parts = [part / 255 for part in colour]
+        parts = [part / 12.92 if part <= 0.04045 else ((part + 0.055) / 1.055) ** 2.4 for part in parts]
+        return 0.2126 * parts[0] + 0.7152 * parts[1] + 0.0722 * parts[2]
+
+    low, high = sorted((light(one), light(other)))
+    return (high + 0.05) / (low + 0.05)
+
+
 @unittest.skipUnless(CHROMIUM, "Chromium isn't there")
 class InBrowser(unittest.TestCase):
     """The page as it is drawn by the processor alone, in a window of 480 by 320."""
@@ -194,17 +206,70 @@ class InBrowser(unittest.TestCase):
         self.show(town)
         for turn in (0.2, 0.5, 0.9):
             self.run_(f"Object.assign(view, {{turn: {turn}, tilt: .3}}); shows.edges = false; look_at(town)")
-            seen = set(map(tuple, self.pixels([self.place_of(x, y, 0) for x in range(1, 10) for y in range(1, 6)])))
-            self.assertEqual(len(seen), 1)
+            seen = self.pixels([self.place_of(x, y, 0) for x in range(1, 10) for y in range(1, 6)])
+            self.assertEqual(len({red > 1.6 * blue for red, _, blue in seen}), 1, "a roof is red, and a wall isn't")
 
     def test_the_legend_hides(self):
         self.show(Town(cubes((0, 0, 0, 10, 6, 8))))
         place = self.place_of(5, 3, 8)
         before = self.pixel(*place)
-        self.run_("document.querySelector('#legend div').click()")
+        self.run_("document.querySelector('#symbols button').click()")
         self.assertNotEqual(self.pixel(*place), before)
-        self.run_("document.querySelector('#legend div').click()")
+        self.assertEqual(self.run_("document.querySelector('#symbols button').getAttribute('aria-pressed')"), "false")
+        self.run_("document.querySelector('#symbols button').click()")
         self.assertEqual(self.pixel(*place), before)
+
+    def test_keys_do_what_the_mouse_does(self):
+        self.show(Town(cubes((0, 0, 0, 10, 6, 8), (14, 0, 0, 10, 6, 8))))
+        seen = ["JSON.stringify([view.turn, view.tilt, view.far, view.centre])"] * 2
+        for key in ("ArrowLeft", "ArrowUp", "+", "6", "7", "ArrowUp", "0"):
+            seen[0] = self.run_(seen[1])
+            self.run_(f"onkeydown({{key: '{key}', target: canvas, preventDefault() {{}}}})")
+            self.assertNotEqual(self.run_(seen[1]), seen[0], key)
+        self.run_("onkeydown({key: 'i', target: canvas, preventDefault() {}})")
+        self.assertIn("lot a", self.run_("box_of('picked').textContent"))
+
+    def test_the_eye_stands_on_the_ground_before_the_houses(self):
+        """Two rows with a way of 6 between them: the eye is 1.6 above the ground, between the rows, and looks along them."""
+        rows = [(12 * at, 0, z, 10, 6, 8) for at in range(5) for z in (0, 14)]
+        self.show(Town(cubes(*rows)))
+        self.browser.key("7")
+        (x, y, z), near = self.run_("[axes().eye, axes().near]")
+        self.assertAlmostEqual(y, 1.6, 5)
+        self.assertTrue(8 < z < 14, z)
+        self.assertGreater(abs(near[0]), 0.9)
+
+    def test_a_camera_is_where_its_words_say(self):
+        self.show(Town(cubes((100, 0, 200, 10, 6, 8))))
+        words = "105 1.6 220 0 0 55"
+        self.run_(f"look_by('{words}')")
+        self.assertEqual(self.run_("camera_words()"), words)
+        x, y = self.place_of(5, 1.6, 8)
+        self.assertTrue(abs(x - 240) <= 1 and abs(y - 160) <= 1, (x, y))
+
+    def test_the_sun_stands_where_it_does(self):
+        """At noon of 21 June in Greenwich it stands 61.9 degrees high in the south, and at 18:00 in the west."""
+        self.show(Town(cubes((0, 0, 0, 10, 6, 8))))
+        east, up, south = self.run_("sun_at(51.48, 0, Date.parse('2026-06-21T12:02Z'))")
+        self.assertAlmostEqual(up, 0.882, 2)
+        self.assertTrue(abs(east) < 0.02 and south > 0.46, (east, south))
+        self.assertLess(self.run_("sun_at(51.48, 0, Date.parse('2026-06-21T18:00Z'))[0]"), -0.9)
+
+    def test_each_role_has_a_name_and_text_stands_out(self):
+        self.show(Town(cubes((0, 0, 0, 10, 6, 8))))
+        named = "[...document.querySelectorAll('[role=img], [role=group], [role=toolbar]')].every(one => one.getAttribute('aria-label'))"
+        self.assertTrue(self.run_(named))
+        self.assertIn("grid", self.run_("canvas.getAttribute('aria-label')"))
+        for scheme in ("light", "dark"):
+            self.browser.ask("Emulation.setEmulatedMedia", features=[{"name": "prefers-color-scheme", "value": scheme}])
+            colours = self.run_(
+                "['#sums', '#symbols b', 'body'].map(one => getComputedStyle(document.querySelector(one)).color)"
+                ".concat(getComputedStyle(box_of('sums')).backgroundColor)"
+            )
+            *texts, back = [[float(part) for part in re.findall(r"[\d.]+", colour)[:3]] for colour in colours]
+            for text in texts:
+                self.assertGreater(contrast(text, back), 4.5, (scheme, colours))
+        self.browser.ask("Emulation.setEmulatedMedia", features=[])
 
     def test_keys_take_edges_and_the_ground_away(self):
         self.show(Town(cubes((0, 0, 0, 10, 6, 8))))

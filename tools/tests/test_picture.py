@@ -1,14 +1,20 @@
 """Pictures by the processor, pixel by pixel."""
 import math
 import sys
+import tempfile
 import unittest
+import zlib
 from pathlib import Path
 from unittest.mock import patch
 
-sys.path.insert(0, str(Path(__file__).resolve().parent.parent))
+sys.path[:0] = [str(Path(__file__).resolve().parent.parent), str(Path(__file__).resolve().parent)]
 
+from browser import CHROMIUM  # noqa: E402
+from test_page import cubes  # noqa: E402
+from cga_city_lib import by_browser  # noqa: E402
 from cga_city_lib.colours import colour_of  # noqa: E402
 from cga_city_lib.obj import Town  # noqa: E402
+from cga_city_lib.page import data_of  # noqa: E402
 from cga_city_lib.render import render, tone  # noqa: E402
 
 
@@ -35,6 +41,77 @@ class Shadows(unittest.TestCase):
                 lit, unlit = (tone(colour_of("wall"), normal, is_lit) for is_lit in (True, False))
                 self.assertIn(lit, seen)
                 self.assertNotIn(unlit, seen)
+
+
+class Drawers(unittest.TestCase):
+    """Chromium and Python put things in the same places."""
+
+    def places(self, rows, width):
+        """Where the middle of the red, of the green and of the blue pixels is, as parts of the picture."""
+        found = {}
+        for y, row in enumerate(rows):
+            for x in range(width):
+                red, green, blue = row[3 * x : 3 * x + 3]
+                for name, is_it in (
+                    ("red", red > 1.5 * max(green, blue)),
+                    ("green", green > 1.12 * max(red, blue)),
+                    ("blue", blue > 1.25 * max(red, green)),
+                ):
+                    if is_it:
+                        found.setdefault(name, []).append((x / width, y / len(rows)))
+        return {name: [sum(axis) / len(axis) for axis in zip(*places)] for name, places in found.items()}
+
+    @unittest.skipUnless(CHROMIUM, "Chromium isn't there")
+    def test_both_draw_things_in_the_same_places(self):
+        lots = (("r", 0, 0), ("g", 30, 0), ("b", 30, 30))
+        lines = [line for name, x, z in lots for line in cubes((x, 0, z, 12, 12, 12), symbol=name, lot=name)]
+        at, numbered = 0, []
+        for line in lines:
+            at += 8 * (line[0] == "o") if numbered else 0
+            numbered.append(
+                "f " + " ".join(str(int(word) + at) for word in line.split()[1:]) if line[0] == "f" else line
+            )
+        with tempfile.TemporaryDirectory() as folder:
+            own = Path(folder) / "own.json"
+            own.write_text('{"r": "c02018", "g": "20a020", "b": "1030e0"}', encoding="utf-8")
+            with patch.dict("os.environ", {"CGA_COLOURS": str(own)}):
+                town = Town(numbered)
+                for view in ("bird", "top"):
+                    plain = self.places(render(town, view, 120, 90), 120)
+                    data = by_browser.picture(data_of(town, "t"), view, 120, 90)
+                    fine = self.places(unpacked(data, 120, 90), 120)
+                    self.assertEqual(set(plain), {"red", "green", "blue"})
+                    for name, place in plain.items():
+                        self.assertLess(max(abs(a - b) for a, b in zip(place, fine[name])), 0.1, (view, name))
+
+
+def unpacked(data, width, height):
+    """The rows of a PNG file of eight bits a part."""
+    at, packed, kind = 8, b"", data[25]
+    while at < len(data):
+        size = int.from_bytes(data[at : at + 4], "big")
+        packed += data[at + 8 : at + 8 + size] if data[at + 4 : at + 8] == b"IDAT" else b""
+        at += size + 12
+    step, flat, rows = {2: 3, 6: 4}[kind], zlib.decompress(packed), []
+    above = bytearray(step * width)
+    for y in range(height):
+        begin = y * (step * width + 1)
+        row = bytearray(flat[begin + 1 : begin + 1 + step * width])
+        for k in range(len(row)):
+            left, up = row[k - step] if k >= step else 0, above[k]
+            corner = above[k - step] if k >= step else 0
+            row[k] = row[k] + added(flat[begin], left, up, corner) & 255
+        rows.append(b"".join(bytes(row[k : k + 3]) for k in range(0, len(row), step)))
+        above = row
+    return rows
+
+
+def added(form, left, up, corner):
+    """What a filter of PNG takes away from a byte."""
+    if form == 4:
+        guess = left + up - corner
+        return min((left, up, corner), key=lambda one: abs(guess - one))
+    return (0, left, up, (left + up) // 2)[form]
 
 
 class Counted(list):

@@ -183,6 +183,18 @@ class Live(Preview):
         self.assertEqual(self.then(""), ["- a house cube 0 0 0 +X+Y+Z 10 3 8"])
         self.assertIn("town.cga: the file is empty, so there is no town", self.page.head["said"])
 
+    def test_a_view_is_kept_in_the_script(self):
+        self.begin(RULES + A)
+        post = lambda words: self.page.get(
+            "/keep", body=json.dumps(words), origin=f"http://127.0.0.1:{self.page.port}"
+        )  # noqa: E731
+        self.assertEqual(post({"camera": "street", "words": "1 1.6 30 0 -5 55"})[0], 200)
+        self.page.until(2)
+        self.assertEqual(self.script.read_text(encoding="utf-8"), RULES + A + "# camera street 1 1.6 30 0 -5 55\n")
+        self.assertEqual(self.page.head["cameras"], {"street": "1 1.6 30 0 -5 55"})
+        status, said = post({"camera": "a b", "words": "1 1.6 30 0 -5 55"})
+        self.assertEqual((status, said[:31]), (409, b"a b: a name has letters, digits"))
+
     def test_a_page_that_comes_later_gets_all(self):
         self.begin(RULES + A)
         self.then(RULES + A + B)

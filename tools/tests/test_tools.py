@@ -1,4 +1,5 @@
 """The tools, tried with stored replies and a stand-in for the program; run by `python3 -m unittest discover tools/tests`."""
+import base64
 import os
 import re
 import struct
@@ -14,6 +15,7 @@ TESTS = Path(__file__).resolve().parent
 TOP = TESTS.parent.parent
 sys.path[:0] = [str(TESTS), str(TESTS.parent)]
 
+from answers import State  # noqa: E402
 from defined import by_definition  # noqa: E402
 from in_process import called  # noqa: E402
 from cga_city_lib.obj import Town  # noqa: E402
@@ -236,13 +238,19 @@ class Shown(unittest.TestCase):
         target = self.folder / "page.html"
         self.assertEqual(call("view", "old.obj", target), (0, "", ""))
         text = target.read_text(encoding="utf-8")
-        self.assertIn('"colours": {', text)
-        self.assertEqual(len(re.findall(r'"\+ \S+ (?:wall|roof) mesh\d+ ', text)), 5)
+        (packed,) = re.findall(r'"packed": "([^"]*)"', text)
+        state = State()
+        state.take(zlib.decompress(base64.b64decode(packed)))
+        self.assertEqual(sorted({line.split()[1] for line in state.drawn()}), ["roof", "wall"])
+        self.assertEqual((sum(state.drawn().values()), len(state.head["colours"]["wall"])), (5, 4))
         self.assertEqual(re.findall(r'(?:src|href)="(?!data:)|https?://', text), [])
 
     def test_picture(self):
         target = self.folder / "picture.png"
-        self.assertEqual(call("picture", "old.obj", target, "street", "40x20"), (0, "", ""))
+        self.assertEqual(
+            call("picture", "old.obj", target, "street", "40x20", "--by", "python"),
+            (0, "", f"picture: {target}: drawn by Python\n"),
+        )
         data = target.read_bytes()
         self.assertEqual(struct.unpack(">II", data[16:24]), (40, 20))
         size = struct.unpack(">I", data[33:37])[0]

@@ -3,10 +3,11 @@
 // nearly a parallel projection, as plans and elevations are.
 const BIRD = {turn: .55, tilt: .5, lens: 1};
 const FAR_LENS = 30;
-const view = {...BIRD, far: 10, centre: [0, 0, 0]};
+const view = {...BIRD, far: 10, centre: [0, 0, 0], walks: false};
 const dot = (a, b) => a[0] * b[0] + a[1] * b[1] + a[2] * b[2];
 const minus = (a, b) => [a[0] - b[0], a[1] - b[1], a[2] - b[2]];
 const along = (a, far, b) => [a[0] + far * b[0], a[1] + far * b[1], a[2] + far * b[2]];
+const unit = (a, otherwise = a) => { const far = Math.hypot(...a); return far > 1e-9 ? a.map(part => part / far) : otherwise; };
 const cross = (a, b) => [a[1] * b[2] - a[2] * b[1], a[2] * b[0] - a[0] * b[2], a[0] * b[1] - a[1] * b[0]];
 
 function axes() {
@@ -22,6 +23,7 @@ function corners_of({low, high}) {
 
 // Moves the eye so that the whole box is seen, whatever its form: as near as its corners let it.
 function look_at(box) {
+  view.walks = false;
   view.centre = box.low.map((at, k) => (at + box.high[k]) / 2);
   for (let round = 0; round < 4; round++) {
     const {right, up, near, wide, high} = axes(), seen = corners_of(box).map(corner => minus(corner, view.centre));
@@ -51,12 +53,14 @@ function ground_before(box) {
 
 const size_of = box => Math.max(Math.hypot(...box.low.map((at, k) => box.high[k] - at)) / 2, 1e-6);
 
-function matrix(box) {
+// The matrix of a view, moved by a part of the window.
+function matrix(box, [dx, dy] = [0, 0]) {
   const {right, up, near, eye, far, wide, high} = axes(), [first, last] = reach(box, eye, near, far);
   const a = (last + first) / (first - last), b = 2 * last * first / (first - last);
-  const rows = [0, 1, 2].flatMap(k => [wide * right[k], high * up[k], a * near[k], -near[k]]);
-  rows.push(-wide * dot(right, eye), -high * dot(up, eye), -a * dot(near, eye) + b, dot(near, eye));
-  return {view: new Float32Array(rows), base: 1 - a, high};
+  const rows = [0, 1, 2].flatMap(k => [wide * right[k] - dx * near[k], high * up[k] - dy * near[k], a * near[k], -near[k]]);
+  const ahead = dot(near, eye);
+  rows.push(-wide * dot(right, eye) + dx * ahead, -high * dot(up, eye) + dy * ahead, -a * ahead + b, ahead);
+  return {view: new Float32Array(rows), base: 1 - a, range: -b, wide, high};
 }
 
 // The way from the eye through a place of the window.

@@ -1,16 +1,26 @@
 'use strict';
 // One picture: the sun's map of shadows where the town has changed, the solids, the ground, the outline of what is
-// picked, and at the end the edges over all.
-const programs = gl && {
-  solids: program(SOLID_AT, SOLID), shadow: program(SHADOW_AT, SHADOW), ground: program(GROUND_AT, GROUND),
-  lines: program(LINE_AT, LINE), picture: program(PICTURE_AT, PICTURE_EDGED),
-};
+// picked, and at the end sky, edges and air over all. Where the processor alone draws, a picture of a view that is turned is
+// plain, and a fine one follows when it stands still.
+const PLAIN = '#define PLAIN\n';
+const drawing = kind => ({solids: lazy(SOLID_AT, kind + SOLID), ground: lazy(GROUND_AT, kind + GROUND), picture: lazy(PICTURE_AT, kind + PICTURE_EDGED)});
+const programs = {shadow: lazy(SHADOW_AT, SHADOW), lines: lazy(LINE_AT, LINE), mean: lazy(PICTURE_AT, MEAN), plain: drawing(PLAIN), fine: drawing('')};
+
+// A program that is made when it is used first, since that takes long.
+function lazy(vertex, fragment) {
+  let made = null;
+  return values => (made = made || program(vertex, fragment))(values);
+}
 const SIDE = gl && Math.min(is_slow ? 2048 : 4096, gl.getParameter(gl.MAX_TEXTURE_SIZE));
 const SAMPLES = gl && (is_slow ? 0 : Math.min(4, gl.getParameter(gl.MAX_SAMPLES)));
 const NUDGE = 1e-6; // about sixteen steps of the depth
 const GLOW = 1; // seconds for which what came lights up
+const GROUND_SHADE = [.255, .26, .22]; // of light that comes back
+const PAPER = [.955, .96, .965]; // behind a plan
+const SOFT = .018; // how far the sun's edge is from its middle, as a part of the way to it
 const town = new Town(), hidden = new Set();
 const shows = {edges: true, ground: true};
+const is_still_wanted = matchMedia('(prefers-reduced-motion: reduce)');
 let sun = null, is_shadow_old = true, marked = 0, drawn_last = 0;
 
 function plane(corners) {
@@ -25,7 +35,10 @@ const outline = gl && gl.createVertexArray();
 
 function paint(colours) {
   const high = Math.max(1, Math.ceil(town.symbols.length / 256)), texels = new Uint8Array(4 * 256 * high);
-  town.symbols.forEach((symbol, k) => texels.set([...(colours[symbol] || [200, 200, 200]), hidden.has(symbol) ? 0 : 255], 4 * k));
+  town.symbols.forEach((symbol, k) => {
+    const [red, green, blue, material = 0] = colours[symbol] || [200, 200, 200];
+    texels.set([red, green, blue, hidden.has(symbol) ? 0 : 1 + material], 4 * k);
+  });
   gl.activeTexture(gl.TEXTURE0 + COLOURS);
   gl.texImage2D(gl.TEXTURE_2D, 0, gl.RGBA, 256, high, 0, gl.RGBA, gl.UNSIGNED_BYTE, texels);
 }
@@ -40,15 +53,17 @@ const colour_map = gl && texture(COLOURS, gl.NEAREST);
 // The box that the sun's map covers.
 const lit = () => tiles && tiles.lit || town;
 
-function sun_matrix() {
-  const right = [.8281, 0, .5610].map(part => part / Math.hypot(.8281, .5610)), up = cross(SUN, right), box = lit(), size = 1.02 * size_of(box);
+function sun_matrix(way) {
+  const right = unit(cross([0, 1, 0], way), [1, 0, 0]), up = cross(way, right), box = lit(), size = 1.02 * size_of(box);
   const middle = box.low.map((at, k) => (at + box.high[k]) / 2), deep = 1.5 * size;
-  const rows = [0, 1, 2].flatMap(k => [right[k] / size, up[k] / size, -SUN[k] / deep, 0]);
-  return new Float32Array([...rows, -dot(right, middle) / size, -dot(up, middle) / size, dot(SUN, middle) / deep, 1]);
+  const rows = [0, 1, 2].flatMap(k => [right[k] / size, up[k] / size, -way[k] / deep, 0]);
+  return new Float32Array([...rows, -dot(right, middle) / size, -dot(up, middle) / size, dot(way, middle) / deep, 1]);
 }
 
-function shine() {
-  sun = sun_matrix();
+// The sun's map of shadows, by the light of a place of its disc.
+function shine(dx = 0, dy = 0) {
+  const way = light_of(sky.way).sun_way, right = unit(cross([0, 1, 0], way), [1, 0, 0]);
+  sun = sun_matrix(unit(along(along(way, SOFT * dx, right), SOFT * dy, cross(way, right)), way));
   gl.bindFramebuffer(gl.FRAMEBUFFER, shadow_frame);
   gl.viewport(0, 0, SIDE, SIDE);
   gl.clear(gl.DEPTH_BUFFER_BIT);
@@ -57,7 +72,7 @@ function shine() {
   programs.shadow({sun, colours: COLOURS, grow: 0});
   draw_solids(programs.shadow);
   gl.disable(gl.POLYGON_OFFSET_FILL);
-  is_shadow_old = false;
+  is_shadow_old = dx !== 0 || dy !== 0;
 }
 
 // ---- the picture
@@ -88,13 +103,13 @@ function cell_of() {
   return ten * [1, 2, 5, 10].find(step => step * ten >= wanted);
 }
 
-function draw_ground(common) {
-  const size = 3 * size_of(town), [x, y, z] = town.low.map((at, k) => (at + town.high[k]) / 2);
+function draw_ground(common, by) {
+  const size = (is_parallel() ? 3 : 9) * size_of(town), [x, y, z] = town.low.map((at, k) => (at + town.high[k]) / 2);
   const offset = town.offset.map(at => at % (10 * common.cell));
-  programs.ground({...common, spread: [x, town.low[1], z, size], offset});
+  by.ground({...common, spread: [x, town.low[1], z, size], offset, shade: GROUND_SHADE, edge: is_parallel() ? .25 : .6});
   gl.enable(gl.BLEND);
   gl.blendFunc(gl.SRC_ALPHA, gl.ONE_MINUS_SRC_ALPHA);
-  gl.depthMask(false); // so that edges are drawn where something stands on it, and not at its own end
+  gl.depthMask(!is_parallel()); // so that a plan has no edge at the ground's own end
   gl.bindVertexArray(floor);
   gl.drawArrays(gl.TRIANGLE_STRIP, 0, 4);
   gl.depthMask(true);
@@ -105,35 +120,55 @@ function pixel_at_centre() {
   return 2 * view.far * view.lens / (axes().wide * parts.width);
 }
 
-function draw_picture(moment) {
-  const seen = matrix(town), common = {view: seen.view, sun, shadows: SHADOWS, colours: COLOURS, fine: 1 / SIDE,
-    texel: 2 * size_of(lit()) / SIDE, grow: tiles ? 0 : .3 * pixel_at_centre(), nudge: NUDGE, now: moment, cell: cell_of()};
+const is_parallel = () => view.lens >= FAR_LENS;
+
+// What all programs of a picture are told.
+function common_of(seen, moment, is_fine) {
+  return {...light_of(sky.way), view: seen.view, sun, shadows: SHADOWS, colours: COLOURS, fine: 1 / SIDE, is_soft: +is_fine,
+    texel: 2 * size_of(lit()) / SIDE, grow: tiles ? 0 : .3 * pixel_at_centre(), nudge: NUDGE, now: moment, cell: cell_of(),
+    fades: +!is_still_wanted.matches, foot: town.low[1], eye: axes().eye};
+}
+
+function draw_picture(common, by) {
   gl.bindFramebuffer(gl.FRAMEBUFFER, parts.drawn);
   gl.viewport(0, 0, parts.width, parts.height);
+  gl.clearColor(...(is_parallel() ? PAPER : [0, 0, 0]), 1);
   gl.clear(gl.COLOR_BUFFER_BIT | gl.DEPTH_BUFFER_BIT);
-  programs.solids(common);
-  draw_solids(programs.solids);
-  if (shows.ground && view.tilt >= 0) draw_ground(common);
+  by.solids(common);
+  draw_solids(by.solids);
+  if (shows.ground && common.eye[1] > town.low[1]) draw_ground(common, by);
   if (marked) {
     programs.lines({...common, tint: [.95, .3, .05, 1]});
     gl.bindVertexArray(outline);
     gl.drawArrays(gl.LINES, 0, marked);
   }
-  return seen;
 }
 
-function finish({base, high}) {
+// The last pass, onto the window or into another picture.
+function finish({base, high, wide, range}, common, by, target, turns = 0) {
   if (SAMPLES) {
     gl.bindFramebuffer(gl.READ_FRAMEBUFFER, parts.drawn);
     gl.bindFramebuffer(gl.DRAW_FRAMEBUFFER, parts.resolved);
     const all = [0, 0, parts.width, parts.height];
     gl.blitFramebuffer(...all, ...all, gl.COLOR_BUFFER_BIT | gl.DEPTH_BUFFER_BIT, gl.NEAREST);
   }
-  gl.bindFramebuffer(gl.FRAMEBUFFER, null);
-  programs.picture({picture: PICTURE, depths: DEPTHS, base, pixel: 2 / (high * parts.height), is_edged: +shows.edges});
+  const {right, up, near, far} = axes(), size = size_of(town);
+  gl.bindFramebuffer(gl.FRAMEBUFFER, target);
+  by.picture({...common, picture: PICTURE, depths: DEPTHS, base, range, pixel: 2 / (high * parts.height), is_edged: +shows.edges,
+    rings: by === programs.fine ? 2 : 0, turns, paper: +is_parallel(), air: is_parallel() ? 0 : 6 * size, clear: Math.max(0, far - size),
+    window: [1 / wide, 1 / high], right, up, ahead: near.map(part => -part)});
+  if (turns > 0) gl.enable(gl.BLEND);
+  gl.blendColor(0, 0, 0, 1 / (turns + 1));
+  gl.blendFunc(gl.CONSTANT_ALPHA, gl.ONE_MINUS_CONSTANT_ALPHA);
+  over_all();
+  gl.disable(gl.BLEND);
+}
+
+function over_all() {
   gl.disable(gl.DEPTH_TEST);
   gl.bindVertexArray(screen_);
   gl.drawArrays(gl.TRIANGLE_STRIP, 0, 4);
+  gl.enable(gl.DEPTH_TEST);
 }
 
 // The outline of an instance, or of none.
@@ -150,21 +185,30 @@ const moment = () => performance.now() / 1000;
 
 function draw() {
   is_asked = false;
-  const now = moment(), wide = Math.round(innerWidth * devicePixelRatio), high = Math.round(innerHeight * devicePixelRatio);
+  if (!begin_picture()) return;
+  if (tiles) tiles.choose();
+  if (is_shadow_old) shine();
+  const now = moment(), seen = matrix(town), common = common_of(seen, now, !is_slow), by = is_slow ? programs.plain : programs.fine;
+  draw_picture(common, by);
+  finish(seen, common, by, null);
+  const left = drawn_last + GLOW - now;
+  if (left > 0) is_slow || is_still_wanted.matches ? setTimeout(ask_draw, 1000 * left + 20) : ask_draw();
+  else refine_soon();
+}
+
+// Sets the canvas and the textures of a picture; tells whether there is a town.
+function begin_picture() {
+  const wide = Math.round(innerWidth * devicePixelRatio), high = Math.round(innerHeight * devicePixelRatio);
   if (canvas.width !== wide || canvas.height !== high) Object.assign(canvas, {width: wide, height: high});
   gl.clearColor(.77, .83, .89, 1);
   if (!town.low) {
     gl.bindFramebuffer(gl.FRAMEBUFFER, null);
     gl.clear(gl.COLOR_BUFFER_BIT);
-    return;
+    return false;
   }
   gl.enable(gl.DEPTH_TEST);
   fit_parts(wide, high);
-  if (tiles) tiles.choose();
-  if (is_shadow_old) shine();
-  finish(draw_picture(now));
-  const left = drawn_last + GLOW - now;
-  if (left > 0) is_slow ? setTimeout(ask_draw, 1000 * left + 20) : ask_draw();
+  return true;
 }
 
 let is_asked = false;

@@ -15,7 +15,9 @@ function take(told, data, from) {
   tell(head.said || '');
   if (is_changed || told.colours) legend();
   if (is_changed || told.rules) pick_again();
+  if (told.sun !== undefined) set_sun(told.sun);
   sliders();
+  views();
   sums();
 }
 
@@ -52,6 +54,19 @@ async function follow() {
       [stamp, is_lost] = ['', true];
     }
   }
+}
+
+// Writes the view into the script as a camera.
+async function keep_camera() {
+  if (!(head.save > 0)) return notice(`This view as a line of a script: # camera NAME ${camera_words()}`);
+  const name = prompt('A name for this view, of letters, digits and underscores:', `view${cameras().length + 1}`);
+  if (name) await tell_server('keep', {camera: name, words: camera_words()});
+}
+
+// What was sent and couldn't be taken is said.
+async function tell_server(address, words) {
+  const answer = await fetch(address, {method: 'POST', body: JSON.stringify(words)}).catch(() => null);
+  if (!answer || !answer.ok) notice(answer ? await answer.text() || 'The preview refused it.' : 'The preview has ended.');
 }
 
 // What a preview that was begun again doesn't know any more.

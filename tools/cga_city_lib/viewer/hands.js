@@ -1,7 +1,8 @@
 'use strict';
 // The mouse, fingers and keys.
 const fingers = new Map();
-const SIDES = {1: 0, 2: Math.PI / 2, 3: Math.PI, 4: -Math.PI / 2};
+const VIEW_KEYS = {1: 'front', 2: 'right', 3: 'back', 4: 'left', 5: 'plan', 6: 'corner', 7: 'eye', 0: 'bird'};
+const STEP = 40; // pixels by which an arrow key drags
 let moved = 0, is_touched = false;
 
 canvas.onpointerdown = event => {
@@ -31,9 +32,19 @@ function pinch(event, was, other) {
 }
 
 function turn_by(dx, dy) {
-  if (view.lens !== 1) Object.assign(view, {lens: 1});
+  if (view.walks) return about_eye(() => turned(dx / 2, dy / 2, -1.2));
+  if (is_parallel()) Object.assign(view, {lens: 1});
+  turned(dx, dy, -.3);
+}
+
+function turned(dx, dy, least) {
   view.turn -= dx / 200;
-  view.tilt = Math.max(-.3, Math.min(Math.PI / 2, view.tilt + dy / 200));
+  view.tilt = Math.max(least, Math.min(Math.PI / 2, view.tilt + dy / 200));
+}
+
+// Nearer, by a factor below 1, or farther.
+function nearer(by, point = view.centre) {
+  view.walks ? walk(-20 * Math.log(by)) : zoom(by, point);
 }
 
 canvas.onpointermove = event => {
@@ -53,11 +64,11 @@ canvas.addEventListener('wheel', event => {
   if (!town.low) return;
   const {clientX: x, clientY: y} = event, is_same = x === wheel.x && y === wheel.y && moment() < wheel.until;
   wheel = {x, y, until: moment() + .5, point: is_same ? wheel.point : point_at(x, y)};
-  see(() => zoom(Math.exp(event.deltaY / 800), wheel.point));
+  see(() => nearer(Math.exp(event.deltaY / 800), wheel.point));
 }, {passive: false});
 
 function save_picture() {
-  draw();
+  draw_fine(is_slow ? 4 : FINE);
   canvas.toBlob(blob => {
     const link = document.createElement('a');
     link.href = URL.createObjectURL(blob);
@@ -67,14 +78,26 @@ function save_picture() {
   });
 }
 
+const ARROWS = {ArrowLeft: [1, 0], ArrowRight: [-1, 0], ArrowUp: [0, 1], ArrowDown: [0, -1]};
+function arrow([x, y], moves) {
+  if (moves) return move(STEP * x, STEP * y);
+  if (view.walks && y) return walk(1.5 * y);
+  turn_by(STEP * x * (view.walks ? -1 : 1), STEP * y);
+}
+
+const KEYS = {
+  'f': () => look_at(town), '+': () => nearer(.8), '=': () => nearer(.8), '-': () => nearer(1.25),
+  'e': () => { shows.edges = !shows.edges; }, 'g': () => { shows.ground = !shows.ground; },
+  'h': () => later(.5), 'H': () => later(-.5), 'c': () => next_camera(), 'k': () => keep_camera(), 'i': () => pick(innerWidth / 2, innerHeight / 2),
+};
+
 onkeydown = event => {
-  if (event.ctrlKey || event.metaKey || event.altKey || event.target.tagName === 'INPUT') return;
+  if (event.ctrlKey || event.metaKey || event.altKey || ['INPUT', 'SELECT'].includes(event.target.tagName)) return;
   const {key} = event;
-  if (SIDES[key] !== undefined) see(() => { Object.assign(view, {turn: SIDES[key], tilt: 0, lens: FAR_LENS}); look_at(town); });
-  else if (key === '5') see(() => { Object.assign(view, {turn: 0, tilt: Math.PI / 2, lens: FAR_LENS}); look_at(town); });
-  else if (key === '0') see(() => { Object.assign(view, BIRD); look_at(town); });
-  else if (key === 'f') see(() => look_at(town));
-  else if (key === 'e') see(() => { shows.edges = !shows.edges; });
-  else if (key === 'g') see(() => { shows.ground = !shows.ground; });
+  if (ARROWS[key]) see(() => arrow(ARROWS[key], event.shiftKey));
+  else if (VIEW_KEYS[key]) see(VIEWS[VIEW_KEYS[key]]);
   else if (key === 's' && town.low) save_picture();
+  else if (KEYS[key]) see(KEYS[key]);
+  else return;
+  event.preventDefault();
 };

@@ -7,20 +7,23 @@ function notice(text) {
   box_of('notice').textContent = text;
 }
 
-function show(name, is_shown) {
-  box_of(name).style.display = is_shown ? 'block' : 'none';
+function show(name, is_shown, how = 'block') {
+  box_of(name).style.display = is_shown ? how : 'none';
 }
 
 function legend_row(symbol, number) {
-  const row = document.createElement('div'), colour = document.createElement('span'), many = document.createElement('b');
-  colour.style.background = `rgb(${head.colours[symbol]})`;
-  many.textContent = town.counts[number];
-  row.append(colour, decodeURIComponent(symbol), many);
-  row.className = hidden.has(symbol) ? 'hidden' : '';
-  row.onclick = event => {
+  const colour = document.createElement('span'), many = document.createElement('b'), name = document.createElement('i');
+  const row = button('', event => {
     event.shiftKey ? alone(symbol) : hidden.delete(symbol) || hidden.add(symbol);
     legend();
-  };
+    [...box_of('legend').querySelectorAll('button')].find(one => one.dataset.symbol === symbol).focus();
+  });
+  colour.style.background = `rgb(${(head.colours[symbol] || [200, 200, 200]).slice(0, 3)})`;
+  many.textContent = town.counts[number].toLocaleString('en');
+  name.textContent = decodeURIComponent(symbol);
+  row.append(colour, name, many);
+  row.dataset.symbol = symbol;
+  row.setAttribute('aria-pressed', !hidden.has(symbol));
   return row;
 }
 
@@ -32,7 +35,7 @@ function alone(symbol) {
 
 function legend() {
   const rows = town.symbols.map((symbol, number) => [symbol, number]).filter(([, number]) => town.counts[number] > 0);
-  box_of('legend').replaceChildren(...rows.map(([symbol, number]) => legend_row(symbol, number)));
+  box_of('symbols').replaceChildren(...rows.map(([symbol, number]) => legend_row(symbol, number)));
   show('legend', rows.length);
   paint(head.colours);
   is_shadow_old = true;
@@ -139,5 +142,6 @@ function sums() {
   if (town.low && shows.ground) parts.push(`grid ${+cell_of().toPrecision(1)}`);
   if (town.offset && town.offset.some(at => Math.abs(at) >= 1000)) parts.push(`drawn from ${town.offset.map(many).join(', ')}`);
   box_of('sums').textContent = parts.join(' \u00b7 ');
+  canvas.setAttribute('aria-label', `a town: ${parts.join(', ')}`);
   show('sums', parts.length && !head.said);
 }

@@ -1,0 +1,44 @@
+"""A picture of a town by the page, in a browser without a window: as `tools/view` shows it, from a view or a camera."""
+import base64
+import json
+import tempfile
+from pathlib import Path
+from typing import Any, Dict
+
+from .browser import CHROMIUM, Browser, Silent
+from .call import Refused
+from .page import page
+
+PATIENCE = 600  # seconds for a picture
+MEAN_OF = 8  # pictures that a fine one is the mean of
+VIEWS = {  # what the page does for each view
+    "bird": "VIEWS.bird()",
+    "street": "VIEWS.corner()",
+    "back": "Object.assign(view, {turn: Math.PI + .5, tilt: .5, lens: 1}); look_at(town)",
+    "top": "VIEWS.plan()",
+    "corner": "VIEWS.corner()",
+    "eye": "VIEWS.eye()",
+    "plan": "VIEWS.plan()",
+}
+
+
+def is_there() -> bool:
+    return CHROMIUM is not None
+
+
+def picture(data: Dict[str, Any], view: str, width: int, height: int) -> bytes:
+    """The bytes of a PNG file. The view is a name of VIEWS, or the words of a camera."""
+    does = VIEWS.get(view) or f"look_by({json.dumps(view)})"
+    browser = Browser(width, height, PATIENCE)
+    try:
+        with tempfile.TemporaryDirectory() as folder:
+            file = Path(folder) / "town.html"
+            file.write_text(page(data), encoding="utf-8")
+            browser.open(file.as_uri())
+            browser.wait("document.readyState === 'complete' && town.low !== null", PATIENCE)
+        told = browser.run(f"(() => {{ {does}; draw_fine({MEAN_OF}); return canvas.toDataURL('image/png'); }})()")
+        return base64.b64decode(told.partition(",")[2])
+    except Silent as fault:
+        raise Refused(f"Chromium made no picture ({fault}): say --by python") from None
+    finally:
+        browser.close()
