@@ -135,7 +135,7 @@ ROWS = [
 ]
 LOST = [  # CGA, and the comment that tells what was left out or written nearly so
     ("Lot --> extrude(9) r(0, 45, 0) A", "# left out, line 1: r(0, 45, 0): a turn is by 90, 180 or 270 degrees"),
-    ("Lot --> A\nB --> C", "# left out, line 2: B --> ..: no lot comes to it"),
+    ("Lot --> A\nB --> C", "# left out, line 2: B --> C: no lot comes to it"),
     ("Lot --> A(1)\nA --> C", "# left out, line 1: A: A has 0 parameters"),
     ('import f : "f.cga"\nLot --> A', '# left out, line 1: import f : "f.cga": the file isn\'t there'),
     ("Lot --> A B --> ]", "# left out, line 1: B --> ]: `]` in line 1 can't stand there"),

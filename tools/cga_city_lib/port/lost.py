@@ -5,6 +5,7 @@ from ..strangers_text import told
 
 
 FILE = 10**6  # added to the lines of each further file
+LONGEST = 700  # letters of what is quoted, so that the line is one that a script may have
 WIDTH = 60  # of text that `told` leaves whole
 
 
@@ -58,6 +59,7 @@ def comment(remarks: List[Remark]) -> str:
     what = "left out" if remarks[0].is_lost else "nearly"
     lines = list(dict.fromkeys(place(remark.line) for remark in remarks))
     written = ", ".join(dict.fromkeys(whole(remark.written) for remark in remarks))
+    written = written[:LONGEST] + " .." * (len(written) > LONGEST)
     return f"# {what}, {', '.join(lines)}: {written}: {remarks[0].reason}"
 
 

@@ -229,7 +229,7 @@ def declared(annotations: List[str], piece: List[Token]) -> Declaration:
         found: Declaration = Function(name, parameters, reader.chance_or_value(), line)
     else:
         reader.need("-->")
-        found = Rule(name, parameters, reader.body(), line, annotations)
+        found = Rule(name, parameters, reader.body(), line, annotations, written(piece))
     is_whole(reader)
     return found
 

@@ -29,17 +29,13 @@ class Script:
         start = self.port.start()
         symbol = self.port.variant(start.name, State("ground"))
         self.first, self.beginning = starting(self.port, start, symbol)
-        self.rules = 0
+        self.rules, self.left = 0, list(declared)
 
     def text(self) -> str:
         sections = self.sections()
-        heads = [*self.attributes(), *self.left_out()]
-        return (
-            "\n".join(
-                ["version 2", "quiet", *self.title(), "rules", *heads, *self.numbered(sections), "end", *self.rest()]
-            )
-            + "\n"
-        )
+        heads = ["version 2", "quiet", *self.title(), "rules", *self.attributes()]
+        ends = [*self.left_out(None), "end", *self.rest()]
+        return "\n".join([*heads, *self.numbered(sections), *ends]) + "\n"
 
     def title(self) -> List[str]:
         first = min(one.line for one in self.port.declared)
@@ -69,13 +65,16 @@ class Script:
         said = notes if is_plain else [*notes, f"{whole(attribute.written)}, which it doesn't follow"]
         return "  # " + ", ".join(said) if said else ""
 
-    def left_out(self) -> Iterator[str]:
-        """The declarations that no rule of the script has use for, each with its reason."""
-        for one in self.port.declared:
+    def left_out(self, line: Optional[int]) -> List[str]:
+        """The declarations above a line that no rule of the script has use for, each with its reason; all if none is told."""
+        above: List[str] = []
+        for one in [one for one in self.left if line is None or one.line < line]:
+            self.left.remove(one)
             reason = self.reason(one)
             if reason:
-                self.port.remarks.lost(one.line, getattr(one, "written", "") or f"{one.name} --> ..", reason)
-        yield from self.port.remarks.taken()
+                above += self.comments_above(one.line)
+                self.port.remarks.lost(one.line, getattr(one, "written", ""), reason)
+        return [*above, *self.port.remarks.taken()]
 
     def reason(self, one: Declaration) -> str:
         port = self.port
@@ -101,7 +100,8 @@ class Script:
         order = sorted(self.port.lines.items(), key=lambda item: self.port.rules[item[0][0]].line)
         lines = [*self.beginning]
         for (name, _), own in order:
-            above = self.comments_above(self.port.rules[name].line)
+            line = self.port.rules[name].line
+            above = [*self.left_out(line), *self.comments_above(line)]
             lines += [own[0]._replace(comments=[*above, *own[0].comments]), *own[1:]] if own else []
         lines += self.port.ending
         asking = {line.symbol for line in lines if "Scope.occ" in line.condition}

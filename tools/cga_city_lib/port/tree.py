@@ -169,6 +169,7 @@ class Rule:
     body: Body
     line: int
     annotations: List[str] = field(default_factory=list)
+    written: str = ""
 
 
 @dataclass
