@@ -44,6 +44,19 @@ class Texts(Dict[float, str]):
         return self[number]
 
 
+class Reals(Dict[str, float]):
+    """Numbers of corners along an axis without the offset, by their texts."""
+
+    def __init__(self, offset: Fraction) -> None:
+        super().__init__()
+        self.offset = offset
+
+    def __missing__(self, text: str) -> float:
+        upper, lower = parted(text)
+        self[text] = float(Fraction(upper, lower) - self.offset)
+        return self[text]
+
+
 class Shape:
     """What all solids of a form share: lines of vertices and faces to be filled in, and what fills them. `parts` are coordinates
     from the first corner on, each with its axis, and `ways` are directions of u or v with the form's own part along them.
@@ -76,7 +89,7 @@ class Merged:
         is_moved, metres = setting.metres != 1 or any(setting.offset), Fraction(setting.metres)
         self.axes = [Axis(Fraction(offset), metres, None if is_moved else places) for offset in setting.offset]
         self.shapes: Dict[Form, Shape] = {}
-        self.reals: Dict[Tuple[int, str], float] = {}
+        self.reals = [Reals(Fraction(offset)) for offset in setting.offset]
         self.maps: Dict[Tuple[str, str], int] = {}
         self.texts = Texts()
 
@@ -130,13 +143,7 @@ class Merged:
 
     def along(self, shape: Shape, corner: Sequence[str]) -> List[str]:
         """u or v of a corner for each of the shape's ways."""
-        x, y, z = (self.real(axis, text) for axis, text in enumerate(corner))
+        xs, ys, zs = self.reals
+        x, y, z = xs[corner[0]], ys[corner[1]], zs[corner[2]]
         texts = self.texts
         return [texts[a * x + b * y + c * z + own] for (a, b, c), own in shape.ways]
-
-    def real(self, axis: int, text: str) -> float:
-        key = axis, text
-        if key not in self.reals:
-            upper, lower = parted(text)
-            self.reals[key] = float(Fraction(upper, lower) - Fraction(self.setting.offset[axis]))
-        return self.reals[key]
