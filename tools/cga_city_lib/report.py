@@ -4,6 +4,8 @@ import re
 from collections import defaultdict
 
 from .advice import Place, advice
+from .budget import CAUSES as TOO_LARGE
+from .budget import explained
 from .causes import CAUSES, CODES, help_for
 from .follows import Follows
 from .notes import by_symbol, notes
@@ -43,11 +45,28 @@ class Report:
         self.path, self.lines, self.ways, self.head = path, lines, ways or {}, head
         self.answers = list(zip(commands, replies))
         self.retried = Retried(ask or (lambda _: []), place, lines, self.answers if ask else [])
-        self.cause_of = Follows(lines, self.answers).cause_of
+        self.ask, self.cause_of = ask, Follows(lines, self.answers).cause_of
         self.look_again()
+        self.too_large = self.first_too_large()
         self.refused = [
             (command, *REFUSED.fullmatch(reply[0]).groups()) for command, reply in self.answers if is_refused(reply)
         ]
+
+    def first_too_large(self):
+        """The first command by which the town would be too large; lots behind it follow from it."""
+        found = [
+            command for command, reply in self.answers if reply[0].split()[2:3] in ([cause] for cause in TOO_LARGE)
+        ]
+        for command in found[1:]:
+            if command.words[:1] == ["lot"]:
+                self.cause_of.setdefault(command.first, found[0].first)
+        return found[0] if found else None
+
+    def why_too_large(self, command, cause):
+        told = cause in TOO_LARGE and command == self.too_large and self.ask
+        text = explained(self.ask, self.lines, self.answers, command, cause) if told else ""
+        if text:
+            yield f"    {readable(text)}"
 
     def look_again(self):
         """Of the commands behind refused blocks counts what they are replied to once those are mended."""
@@ -124,6 +143,7 @@ class Report:
                 yield from self.block(self.retried.told[command.first])
             else:
                 yield from self.refusal(command, cause, rest)
+            yield from self.why_too_large(command, cause)
             follow = following[command.first]
             if follow[1:]:
                 yield f"    {len(follow)} further refusals follow from it, from line {follow[0]} on"
