@@ -11,7 +11,7 @@ from pathlib import Path
 TESTS = Path(__file__).resolve().parent
 TOP = TESTS.parent.parent
 LINT = f"{TOP}/tools/lint --program {TESTS}/stored"
-SCRIPTS = ["blocks", "faults", "notes"]
+SCRIPTS = ["habits", "faults", "notes"]
 
 
 def found_in(script):

@@ -128,6 +128,12 @@ class Towns(unittest.TestCase):
         self.assertIn("3 came to nothing: FlatScope", told)
         self.assertIn("2 rules read it", hover(*place(TEXT, "storey", 3), known)["contents"]["value"])
 
+    def test_numbers_that_are_taken(self) -> None:
+        """tools/parcels numbers its rules from 999999 downwards."""
+        text = TEXT.replace("6: tall", "999999: tall")
+        known = fates(Document(URI, text).lines, Runs(DEFINE).answer)
+        self.assertEqual((known.shapes["tall"], known.taken[2]), (2, 2))
+
     def test_a_mark_in_each_body(self) -> None:
         mark = "[ T(10000000, 0, 0) S(0, 0, 0) m ]"
         self.assertEqual(

@@ -1,8 +1,9 @@
 """Which rule each shape of a town took. A shape that is made at the end of each body tells it in the trace; it is a point far
 away, so that no other shape meets it, and comes behind all children, so that their seeds stay."""
 from collections import Counter
-from typing import Callable, Dict, List, NamedTuple, Tuple
+from typing import Callable, Dict, Iterator, List, NamedTuple, Tuple
 
+from ..layout import GREATEST
 from ..replies import replies
 from ..script import Rule, commands, is_version, opens_block, rule_in, text_of, tokens, without
 
@@ -57,10 +58,16 @@ def top_level(line: str) -> List[Tuple[int, str]]:
     return found
 
 
+def free_numbers(lines: List[str]) -> Iterator[int]:
+    """Numbers that no rule has, from the greatest on."""
+    used = {rule.number for rule in map(rule_in, lines) if rule}
+    return (number for number in range(GREATEST, 0, -1) if number not in used)
+
+
 def telling(lines: List[str], symbols: Dict[int, str]) -> List[str]:
     """The script whose trace tells the rules that were taken."""
     found = without(lines, "quiet", "print", "model", "trace", "dump", "grammar", "bill", "faults")
-    heads = [f"{999999 - at}: {symbol} -> NIL" for at, symbol in enumerate(symbols.values())]
+    heads = [f"{number}: {symbol} -> NIL" for number, symbol in zip(free_numbers(lines), symbols.values())]
     opening = {
         command.first
         for command in commands(lines)

@@ -80,12 +80,17 @@ class Server:
             waiting = [self.changed.get()]
             while not self.changed.empty():
                 waiting.append(self.changed.get())
-            runs = runs_by(self.program)
-            for uri in dict.fromkeys(waiting):
-                document = self.documents.get(uri or "")
-                if document is not None:
-                    self.tell(uri or "", findings(document, runs))
-                    self.fates[uri or ""] = fates(document.lines, runs.answer)
+            try:
+                self.look_at([self.documents[uri] for uri in dict.fromkeys(waiting) if uri in self.documents])
+            except (Refused, OSError, ValueError, KeyError, RecursionError) as fault:
+                self.streams.notify("window/logMessage", {"type": 1, "message": f"cga_city: {fault}"})
+
+    def look_at(self, documents: List[Document]) -> None:
+        """Tells what is found in these scripts, and keeps the fates of their rules."""
+        runs = runs_by(self.program)
+        for document in documents:
+            self.tell(document.uri, findings(document, runs))
+            self.fates[document.uri] = fates(document.lines, runs.answer)
 
     def tell(self, uri: str, found: List[Dict]) -> None:
         self.streams.notify("textDocument/publishDiagnostics", {"uri": uri, "diagnostics": found})
