@@ -80,7 +80,8 @@ def fresh_copy(folder: Path) -> None:
         ["git", "ls-files", "-z", "-co", "--exclude-standard"], cwd=TOP, stdout=subprocess.PIPE, check=True
     )
     names = [name for name in told.stdout.decode().split("\0") if name]
-    built = [f"crates/{name}/out/{name}{end}" for name in PROGRAMS for end in ("", ".sources")]
+    kept = [f"unproved/{name}" for name in PROGRAMS]
+    built = [f"crates/{Path(name).name}/out/{name}{end}" for name in [*PROGRAMS, *kept] for end in ("", ".sources")]
     for name in names + built:
         if (TOP / name).is_file():
             (folder / name).parent.mkdir(parents=True, exist_ok=True)
