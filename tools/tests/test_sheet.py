@@ -7,7 +7,7 @@ from xml.etree import ElementTree
 from in_process import called
 from parcel_maps import CUBES, RULES, Called, box, polygon, street
 
-from cga_city_lib import pdf, perspective, sheet_views
+from cga_city_lib import by_browser, pdf, perspective, sheet_views
 from cga_city_lib.frame import fitting
 from cga_city_lib.labels import box_of, overlap
 from cga_city_lib.sheet_layout import PAPERS, places
@@ -197,8 +197,11 @@ class Words(Sheets):
         status, out, said = self.made()
         self.assertEqual((status, out), (0, f"{self.sheet}: A3, 2 lots\n"))
         self.assertIn("no PDF is written: install rsvg-convert", said)
-        with mock.patch.object(perspective.shutil, "which", return_value=None):
+        with mock.patch.object(by_browser, "CHROMIUM", None):
             self.assertEqual(perspective.by_page(None, "", 1, 1), None)
+        with mock.patch.object(pdf.shutil, "which", return_value=None), mock.patch.object(
+            pdf, "chromium", return_value=None
+        ):
             self.assertEqual(pdf.command(self.sheet, self.sheet, (420, 297), self.top), None)
 
 
