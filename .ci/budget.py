@@ -24,12 +24,12 @@ STORED = TOP / ".ci" / "budget.txt"
 ROOM = 1.15
 WORKS = (
     "200 lots from nothing",
-    "one lot's edit, 200 lots",
-    "an attribute that all mention, 200 lots",
+    "4,000 small lots from nothing",
+    "one lot's edit, 4,000 small lots",
+    "an edit that changes nothing, 4,000 small lots",
     "a rule of all windows, 200 lots",
     "an attribute of one shape, 512 rules, 128 attributes",
     "two chains of depth 256 that ask",
-    "a judged trace, 12 lots",
     "model with dressed windows, 100 lots",
 )
 # the C library copies long texts by an instruction that callgrind counts once for each byte

@@ -16,7 +16,8 @@ STORED = TOP / ".ci" / "weight.txt"
 ROOM = 0.03
 KINDS = {"src": "*.rt", "specs": "*.antt", "proofs": "*.antt"}
 HEAD = """# Lines of src, specs and proofs of each crate, and minutes of processor of its proof and of its bugs, as they were stored.
-# .ci/weight.py compares, and --store writes. `+ WING LINES: REASON` lets a wing grow by more than 3 in a hundred.
+# The minutes were taken on a machine that other work filled. .ci/weight.py compares, and --store writes.
+# `+ WING LINES: REASON` lets a wing grow by more than 3 in a hundred.
 """
 
 
