@@ -9,7 +9,8 @@ ENDINGS = (".rt", ".antt")
 
 
 def say(*words):
-    print("cga_city:", *words, file=sys.stderr, flush=True)
+    if sys.stderr is not None:  # else it would stand among the replies
+        print("cga_city:", *words, file=sys.stderr, flush=True)
 
 
 def frugal():
