@@ -16,6 +16,7 @@ WORDS = [
     "--use-gl=angle",
     "--use-angle=swiftshader",
     "--enable-unsafe-swiftshader",
+    "--disable-gpu-watchdog",
     "--no-first-run",
     "--disable-extensions",
     "--disable-background-networking",

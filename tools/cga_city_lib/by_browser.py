@@ -8,9 +8,11 @@ from typing import Any, Dict
 from .browser import CHROMIUM, Browser, Silent
 from .call import Refused
 from .page import page
+from .progress import counted
 
 PATIENCE = 600  # seconds for a picture
-MEAN_OF = 8  # pictures that a fine one is the mean of
+MEAN_OF = 6  # pictures that a fine one is the mean of
+DONE = "gl.readPixels(0, 0, 1, 1, gl.RGBA, gl.UNSIGNED_BYTE, new Uint8Array(4))"  # waits until it is drawn
 VIEWS = {  # what the page does for each view
     "bird": "VIEWS.bird()",
     "street": "VIEWS.corner()",
@@ -36,7 +38,10 @@ def picture(data: Dict[str, Any], view: str, width: int, height: int) -> bytes:
             file.write_text(page(data), encoding="utf-8")
             browser.open(file.as_uri())
             browser.wait("document.readyState === 'complete' && town.low !== null", PATIENCE)
-        told = browser.run(f"(() => {{ {does}; draw_fine({MEAN_OF}); return canvas.toDataURL('image/png'); }})()")
+        browser.run(f"(() => {{ {does}; begin_fine(); }})()")
+        for number in counted(range(MEAN_OF), "pictures"):
+            browser.run(f"add_picture({number}); {DONE}")
+        told = browser.run("(() => { show_mean(); return canvas.toDataURL('image/png'); })()")
         return base64.b64decode(told.partition(",")[2])
     except Silent as fault:
         raise Refused(f"Chromium made no picture ({fault}): say --by python") from None

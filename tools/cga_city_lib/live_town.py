@@ -11,6 +11,7 @@ from .session import OPEN
 
 UNSENT = "quiet print stats faults grammar".split()  # they edit nothing and are never refused, and some take long
 FEW = 4  # edits of a save, up to which each is asked how much was worked anew
+MANY_LOTS = 100  # that may come by edits, whatever their part of the town
 BEYOND = ("NoSymbol", "OverBudget", "TooManyLots")  # causes that may be another line's in a run from nothing
 
 
@@ -94,7 +95,7 @@ class LiveTown:
         """Where edits lead from the sources that are there to those of the script, these are sent."""
         new = sources_of(lines, found)
         planned = edits(self.held, new, lines, found) if self.live and self.held and new else None
-        if planned is None:
+        if planned is None or self.is_much(new):
             return None
         answers, self.held = [["# ok"]] * len(found), self.held.copy()
         for edit, reply in zip(planned, self.tell_all([edit.lines for edit in planned], len(planned) <= FEW)):
@@ -109,6 +110,11 @@ class LiveTown:
             return self.keep(lines, found, answers, new)
         self.lines = None
         return answers
+
+    def is_much(self, new):
+        """Whether so many lots come, to a town that has some, that a run from nothing is quicker."""
+        come = len(new.lots.keys() - self.held.lots.keys())
+        return come > MANY_LOTS and 4 * come > len(new.lots)
 
     def anew(self, lines, found, is_open):
         """All is sent to another program; a block that is refused or left open leaves the town that is there."""

@@ -36,7 +36,7 @@ def words_of(data):
 
 def handler(shown, watch):
     # each with what reads the words of its address, and what does them and says what is wrong
-    posts = {"/set": (values_of, watch.turn), "/keep": (words_of, watch.keep)}
+    posts = {"/set": (values_of, watch.turn), "/write": (values_of, watch.write), "/keep": (words_of, watch.keep)}
 
     class Handler(BaseHTTPRequestHandler):
         protocol_version = "HTTP/1.1"

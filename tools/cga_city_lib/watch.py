@@ -4,7 +4,7 @@ import threading
 import time
 from pathlib import Path
 
-from . import about, files, kept_views
+from . import about, files, kept_views, panel_words
 from .call import Refused
 from .pipe import Ended
 from .report import Report
@@ -24,6 +24,7 @@ class Watch:
         self.seen, self.data, self.saves, self.wanted, self.woken = None, None, 0, {}, threading.Event()
         self.values, self.turns = {}, 0  # of the sliders beside the script's, and how often they were set
         self.away = None  # since when the file has been away
+        self.took = 0  # thousandths of a second for the last change
 
     def turn(self, values):
         self.wanted = {**self.wanted, **values}
@@ -35,6 +36,10 @@ class Watch:
         if not kept_views.CAMERA.fullmatch(f"# camera {name} {place}"):
             return f"{name}: a name has letters, digits and underscores alone, and 32 of them at most"
         return self.rewrite(lambda lines: kept_views.with_camera(lines, name, place))
+
+    def write(self, values):
+        """Writes values of attributes into the script; what is wrong, or nothing."""
+        return self.rewrite(lambda lines: panel_words.with_values(lines, values))
 
     def rewrite(self, change):
         """Changes the lines of the script's file; what is wrong, or nothing."""
@@ -101,11 +106,17 @@ class Watch:
     def show(self, lines):
         self.saves += 1
         found = commands(lines)
-        answers, faults = self.town.show(lines, found)
+        answers, faults = self.timed(self.town.show, lines, found)
         report = Report(self.path, lines, found, answers)
         said = report.lines_for(faults) if report.refused or faults else [] if found else [f"{self.path}: {EMPTY}"]
-        said += [f"{self.path}:{number}: {text}" for number, text in kept_views.unread(lines)]
-        head = {} if report.refused else {**about.head_of(lines, found, answers), **kept_views.head_of(lines)}
+        said += [
+            f"{self.path}:{number}: {text}" for number, text in [*kept_views.unread(lines), *panel_words.unread(lines)]
+        ]
+        head = (
+            {}
+            if report.refused
+            else {**about.head_of(lines, found, answers), **kept_views.head_of(lines), **panel_words.head_of(lines)}
+        )
         self.town.publish(
             said="\n".join(said),
             is_busy=False,
@@ -118,11 +129,18 @@ class Watch:
         )
 
     def turned(self, values):
-        refused, self.turns = self.town.turn(values), self.turns + 1
+        refused, self.turns = self.timed(self.town.turn, values), self.turns + 1
         self.values = {**self.values, **{name: value for name, value in values.items() if name not in refused}}
         said = [*filter(None, [self.gone()]), *refused.values()]
         head = {"stats": self.stats(), "values": self.values, "turns": self.turns}
         self.town.publish(said="\n".join(said), is_stale=bool(said), **head)
 
+    def timed(self, does, *words):
+        """What it gives; how many thousandths of a second it took is noted."""
+        begun = time.monotonic()
+        given = does(*words)
+        self.took = round(1000 * (time.monotonic() - begun))
+        return given
+
     def stats(self):
-        return {**self.town.stats, "worked": self.town.worked} if self.town.stats else None
+        return {**self.town.stats, "worked": self.town.worked, "took": self.took} if self.town.stats else None

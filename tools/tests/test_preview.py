@@ -195,6 +195,15 @@ class Live(Preview):
         status, said = post({"camera": "a b", "words": "1 1.6 30 0 -5 55"})
         self.assertEqual((status, said[:31]), (409, b"a b: a name has letters, digits"))
 
+    def test_a_value_is_written_into_the_script(self):
+        self.begin(RULES + A + "# slider h 2..5 step 0.5\n")
+        self.assertEqual(self.page.head["panel"]["shapes"]["h"], {"low": "2", "high": "5", "step": "0.5"})
+        address = f"http://127.0.0.1:{self.page.port}"
+        self.assertEqual(self.page.get("/write", body=json.dumps({"h": "4.5"}), origin=address)[0], 200)
+        self.page.until(2)
+        self.assertIn("attr h = 4.5\n", self.script.read_text(encoding="utf-8"))
+        self.assertEqual(sorted(self.page.drawn()), ["a house cube 0 0 0 +X+Y+Z 10 4.5 8"])
+
     def test_a_page_that_comes_later_gets_all(self):
         self.begin(RULES + A)
         self.then(RULES + A + B)

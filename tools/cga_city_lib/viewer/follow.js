@@ -19,6 +19,7 @@ function take(told, data, from) {
   sliders();
   views();
   sums();
+  if (is_changed && lights_up) tell_worked();
 }
 
 // The view stays, unless nobody has turned it, and nothing was there before.

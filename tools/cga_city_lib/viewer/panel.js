@@ -1,6 +1,6 @@
 'use strict';
 // What stands over the picture: a legend that hides, what is picked, sliders, sums, and what is refused.
-const NOTHING = {colours: {}, rules: {}, attributes: {}, values: {}};
+const NOTHING = {colours: {}, rules: {}, attributes: {}, values: {}, panel: {shapes: {}, groups: []}};
 let picked = null, head = NOTHING;
 
 function notice(text) {
@@ -79,40 +79,71 @@ function number(text) {
   return top / bottom;
 }
 
-// Steps of one, two or five hundredths or the like, from 0 to three times the value.
+// The ends and the step of a slider: as a comment of the script says, else from 0 to three times the value.
+function ends_of(name, value) {
+  const {low, high, step} = head.panel.shapes[name] || {};
+  if (low !== undefined) return {min: low, max: high, step: step || (high - low) / 100};
+  const most = 3 * Math.abs(value) || 1;
+  return {min: Math.min(0, 3 * value), max: value < 0 ? 0 : most, step: 10 ** Math.floor(Math.log10(most) - 1.7)};
+}
+
+// A slider, or a choice where the script has one.
+function input_of(name, text) {
+  const {choices} = head.panel.shapes[name] || {}, made = document.createElement(choices ? 'select' : 'input');
+  if (choices) made.append(...[...new Set([text, ...choices])].map(value => new Option(value, value)));
+  else Object.assign(made, {type: 'range', ...ends_of(name, number(text))});
+  made.id = 'slider_' + name;
+  return made;
+}
+
 function slider(name, text) {
-  const row = document.createElement('label'), range = document.createElement('input'), told = document.createElement('output');
-  const value = number(text), most = 3 * Math.abs(value) || 1, step = 10 ** Math.floor(Math.log10(most) - 1.7);
-  Object.assign(range, {type: 'range', min: Math.min(0, 3 * value), max: value < 0 ? 0 : most, step, id: 'slider_' + name});
-  row.append(name, range, told);
+  const row = document.createElement('label'), input = input_of(name, text), told = document.createElement('output'), is_choice = input.tagName === 'SELECT';
+  row.append(name, input, told);
   const set = said => {
-    range.value = number(said);
+    input.value = is_choice ? said : number(said);
     told.textContent = said;
     row.className = said === text ? '' : 'turned';
   };
-  range.oninput = () => {
-    set(range.value);
-    turn(name, range.value);
+  input.oninput = () => {
+    const value = input.value;
+    set(value);
+    turn(name, value);
   };
   row.ondblclick = () => {
     set(text);
     turn(name, text);
   };
   row.title = 'double click: as in the script';
-  shown_values.set(name, {set, text, is_held: () => is_turning || range.matches(':active')});
+  shown_values.set(name, {set, text, is_held: () => is_turning || input.matches(':active')});
   set(text);
   return row;
 }
+
+// The rows of sliders in their groups, and at the end a button that writes values into the script.
+function rows_of_sliders() {
+  const left = new Map(Object.entries(head.attributes)), rows = [];
+  for (const [title, names] of [...head.panel.groups, ['', [...left.keys()]]]) {
+    const own = names.filter(name => left.has(name)).map(name => slider(name, left.get(name)));
+    names.forEach(name => left.delete(name));
+    const heading = document.createElement('strong');
+    heading.textContent = title;
+    if (own.length) rows.push(...(title ? [heading] : []), ...own);
+  }
+  if (rows.length) rows.push(button('write into the script', () => tell_server('write', changed_values()), 'each value that is not that of the script'));
+  return rows;
+}
+
+const changed_values = () => Object.fromEntries(Object.entries(head.values).filter(([name, value]) => value !== head.attributes[name]));
 
 // They are as the script says after each save, and then as any page sets them.
 let sliders_for = '';
 const shown_values = new Map();
 function sliders() {
-  const said = JSON.stringify([head.attributes, head.save]);
+  const said = JSON.stringify([head.attributes, head.save, head.panel]);
   if (said !== sliders_for) {
     sliders_for = said;
     shown_values.clear();
-    box_of('sliders').replaceChildren(...Object.entries(head.attributes).map(([name, text]) => slider(name, text)));
+    box_of('sliders').replaceChildren(...rows_of_sliders());
   }
   for (const [name, {set, text, is_held}] of shown_values) if (!is_held()) set(head.values[name] ?? text);
 }
@@ -134,10 +165,21 @@ async function turn(name, value) {
 
 // ---- sums
 
+// How much was worked for an edit, as large as nothing else, while it lights up.
+let told_until = 0;
+function tell_worked() {
+  const {shapes, worked, took} = head.stats || {}, many = value => value.toLocaleString('en');
+  if (!Number.isInteger(worked)) return;
+  box_of('worked').textContent = `${many(worked)} of ${many(shapes)} shapes worked in ${many(took)} ms`;
+  show('worked', true);
+  clearTimeout(told_until);
+  told_until = setTimeout(() => show('worked', false), 2500);
+}
+
 function sums() {
   const {lots, shapes, instances, worked} = head.stats || {}, parts = [], many = value => value.toLocaleString('en');
   if (shapes !== undefined) parts.push(`${many(lots)} lots, ${many(instances)} solids`, `${many(shapes)} shapes`);
-  if (Number.isInteger(worked)) parts[1] = `of ${parts[1]} ${many(worked)} were worked anew`;
+  if (Number.isInteger(worked)) parts[1] = `${many(worked)} of ${parts[1]} worked`;
   if (tiles) parts.push(tiles.told());
   if (town.low && shows.ground) parts.push(`grid ${+cell_of().toPrecision(1)}`);
   if (town.offset && town.offset.some(at => Math.abs(at) >= 1000)) parts.push(`drawn from ${town.offset.map(many).join(', ')}`);

@@ -36,11 +36,16 @@ function show_mean() {
   over_all();
 }
 
-// Draws the mean of so many pictures at once.
-function draw_fine(number) {
-  if (!begin_picture()) return;
+function begin_fine() {
+  if (!begin_picture()) return false;
   if (tiles) tiles.choose();
   if (mean) fit_mean();
+  return true;
+}
+
+// Draws the mean of so many pictures at once.
+function draw_fine(number) {
+  if (!begin_fine()) return;
   for (let k = 0; k < (mean ? number : 0); k++) add_picture(k);
   if (mean) show_mean();
   is_shadow_old = true;
