@@ -3,14 +3,14 @@ import base64
 import json
 import tempfile
 from pathlib import Path
-from typing import Any, Dict
+from typing import Any, Dict, Optional, Tuple
 
 from .browser import CHROMIUM, Browser, Silent
 from .call import Refused
 from .page import page
 from .progress import counted
 
-PATIENCE = 600  # seconds for a picture
+PATIENCE = 120  # seconds for a picture
 MEAN_OF = 6  # pictures that a fine one is the mean of
 DONE = "gl.readPixels(0, 0, 1, 1, gl.RGBA, gl.UNSIGNED_BYTE, new Uint8Array(4))"  # waits until it is drawn
 VIEWS = {  # what the page does for each view
@@ -28,10 +28,11 @@ def is_there() -> bool:
     return CHROMIUM is not None
 
 
-def picture(data: Dict[str, Any], view: str, width: int, height: int) -> bytes:
-    """The bytes of a PNG file. The view is a name of VIEWS, or the words of a camera."""
+def picture(data: Dict[str, Any], view: str, size: Tuple[int, int], is_needed: bool = True) -> Optional[bytes]:
+    """The bytes of a PNG file. The view is a name of VIEWS, or the words of a camera. Where the browser makes none, that is
+    refused, or nothing is given where no picture by it is needed."""
     does = VIEWS.get(view) or f"look_by({json.dumps(view)})"
-    browser = Browser(width, height, PATIENCE)
+    browser = Browser(*size, PATIENCE)
     try:
         with tempfile.TemporaryDirectory() as folder:
             file = Path(folder) / "town.html"
@@ -44,6 +45,8 @@ def picture(data: Dict[str, Any], view: str, width: int, height: int) -> bytes:
         told = browser.run("(() => { show_mean(); return canvas.toDataURL('image/png'); })()")
         return base64.b64decode(told.partition(",")[2])
     except Silent as fault:
-        raise Refused(f"Chromium made no picture ({fault}): say --by python") from None
+        if is_needed:
+            raise Refused(f"Chromium made no picture ({fault}): say --by python") from None
+        return None
     finally:
         browser.close()

@@ -109,9 +109,8 @@ class Watch:
         answers, faults = self.timed(self.town.show, lines, found)
         report = Report(self.path, lines, found, answers)
         said = report.lines_for(faults) if report.refused or faults else [] if found else [f"{self.path}: {EMPTY}"]
-        said += [
-            f"{self.path}:{number}: {text}" for number, text in [*kept_views.unread(lines), *panel_words.unread(lines)]
-        ]
+        unread = [*kept_views.unread(lines), *panel_words.unread(lines)]
+        said = [*said, *(f"{self.path}:{number}: {text}" for number, text in unread)]
         head = (
             {}
             if report.refused

@@ -78,7 +78,7 @@ class Drawers(unittest.TestCase):
                 town = Town(numbered)
                 for view in ("bird", "top"):
                     plain = self.places(render(town, view, 120, 90), 120)
-                    data = by_browser.picture(data_of(town, "t"), view, 120, 90)
+                    data = by_browser.picture(data_of(town, "t"), view, (120, 90))
                     fine = self.places(unpacked(data, 120, 90), 120)
                     self.assertEqual(set(plain), {"red", "green", "blue"})
                     for name, place in plain.items():
