@@ -55,10 +55,10 @@ def output_of(word: str) -> Output:
     raise WrongWord(f"{told(path)} has to end in {', '.join(list(MAKERS)[:-1])} or {list(MAKERS)[-1]}")
 
 
-def made(output: Output, script: str) -> bool:
+def made(output: Output, script: str, more: Sequence[str] = ()) -> bool:
     """Calls the tool in this process; whether it made the file."""
     kept, out = (sys.argv, sys.stdout), io.TextIOWrapper(io.BytesIO(), encoding="utf-8")
-    sys.argv, sys.stdout = [str(output.tool), *output.words(script)], out
+    sys.argv, sys.stdout = [str(output.tool), *output.words(script), *more], out
     status: Any = 0
     try:
         code = compile(output.tool.read_bytes(), str(output.tool), "exec")
@@ -78,8 +78,11 @@ def made(output: Output, script: str) -> bool:
 class Outputs:
     """Takes what changed at a save, as a page would, and makes the files again."""
 
-    def __init__(self, path: str, outputs: Sequence[Output], say: Callable[[str], None]) -> None:
+    def __init__(
+        self, path: str, outputs: Sequence[Output], say: Callable[[str], None], words: Sequence[str] = ()
+    ) -> None:
         self.path, self.outputs, self.say, self.drawn = path, outputs, say, KeptInstances()
+        self.words = words  # that each tool is called with, as --set and --program
         self.source, self.said, self.is_first = b"", "", True
 
     def value(self, name: str, otherwise: Any) -> Any:
@@ -104,7 +107,7 @@ class Outputs:
         begun = time.monotonic()
         if not self.is_dressed():
             KEPT[self.path] = self.opened()
-        done = [output.path for output in self.outputs if made(output, self.path)]
+        done = [output.path for output in self.outputs if made(output, self.path, self.words)]
         KEPT.clear()
         self.is_first = self.is_first and len(done) < len(self.outputs)
         if done:
