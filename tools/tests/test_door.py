@@ -189,7 +189,7 @@ class ByStandIn(Given):
 
     def test_a_picture_is_a_png(self):
         _, said = self.call("picture", "--program", TELLER, self.script, self.top / "town.jpg", status=2)
-        self.assertIn("town.jpg has to end in .png", said)
+        self.assertIn("town.jpg` has to end in .png", said)
 
     def test_merged_towns_and_glb(self):
         self.town.write_text("\n".join(of_script(3).lines))

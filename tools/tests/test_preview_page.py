@@ -91,7 +91,7 @@ class PreviewPage(unittest.TestCase):
         self.preview.stdout.close()
         self.begin(port)
         self.browser.wait("box_of('notice').textContent.includes('forgot the sliders: h 5')")
-        self.assertEqual(self.browser.run("box_of('slider_h').value"), "3")
+        self.browser.wait("box_of('slider_h') && box_of('slider_h').value === '3'")
 
 
 if __name__ == "__main__":
