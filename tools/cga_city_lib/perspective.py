@@ -3,7 +3,6 @@ from typing import Optional, Tuple
 
 from . import by_browser
 from .browser import CHROMIUM
-from .call import Refused
 from .obj import Town
 from .page import data_of
 from .png import png
@@ -21,8 +20,8 @@ def by_page(town: Town, title: str, width: int, height: int) -> Optional[bytes]:
     if not by_browser.is_there():
         return None
     try:
-        return by_browser.picture(data_of(town, title), VIEW, width, height)
-    except (Refused, OSError):
+        return by_browser.picture(data_of(town, title), VIEW, (width, height), is_needed=False)
+    except OSError:
         return None
 
 

@@ -294,7 +294,9 @@ class Program(unittest.TestCase):
                     (step.lot, key(step.path), step.symbol, int(step.result) if step.result.isdigit() else 0)
                     for step in city.trace()
                 ]
-                found.append({name for names in ids(Town(city.obj().split("\n")).lots, steps).values() for name in names})
+                found.append(
+                    {name for names in ids(Town(city.obj().split("\n")).lots, steps).values() for name in names}
+                )
             self.assertEqual(found[0], found[1])
             self.assertTrue({name for name in found[1] if name.startswith(("road/", "s1/"))} < found[2])
             self.assertFalse({name for name in found[2] if name.startswith("n4/")})
