@@ -10,7 +10,7 @@ from .script import is_open
 from .session import OPEN
 
 UNSENT = "quiet print stats faults grammar".split()  # they edit nothing and are never refused, and some take long
-FEW = 4  # edits of a save, up to which each is asked how much was worked anew
+FEW = 4  # edits of a save, up to which each is asked how many shapes were expanded
 MANY_LOTS = 100  # that may come by edits, whatever their part of the town
 BEYOND = ("NoSymbol", "OverBudget", "TooManyLots")  # causes that may be another line's in a run from nothing
 

@@ -27,7 +27,7 @@ class Follower:
         if update.attributes is not None:
             self.put_sliders(update.attributes)
         counts = (
-            f"{update.stats.lots} lots, {update.stats.instances:,} solids, {update.stats.expanded:,} shapes worked anew; "
+            f"{update.stats.lots} lots, {update.stats.instances:,} solids, {update.stats.expanded:,} shapes expanded; "
             if update.stats
             else ""
         )
@@ -38,7 +38,9 @@ class Follower:
         scene = bpy.context.scene
         if OFFSET not in scene:
             points = [point for solids in lots.values() for _, corners, _ in solids for point in corners]
-            scene[OFFSET] = [float(far(parts)) for parts in zip(*points)] if points else [0.0, 0.0, 0.0]
+            scene[OFFSET] = (
+                [float(far(min(parts), max(parts))) for parts in zip(*points)] if points else [0.0, 0.0, 0.0]
+            )
         return tuple(scene[OFFSET])
 
     def put_sliders(self, attributes):
