@@ -62,7 +62,7 @@ def pdf_of(sheet: str) -> Path:
 
 def is_proved_run(program: str) -> bool:
     """Whether it is the launcher with a proved program; of another program nobody knows."""
-    return program == str(LAUNCHER) and is_proved(program)
+    return program == str(LAUNCHER) and is_proved("cga_main")
 
 
 def worked(word: Any) -> Work:
