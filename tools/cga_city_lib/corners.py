@@ -5,7 +5,7 @@ from typing import TYPE_CHECKING, Dict, List, Sequence, Tuple
 
 from .eye import dot, normal
 from .forms import Form
-from .glb import INDICES, VERTICES
+from .glb import INDICES, VERTICES, short
 from .uv import directions
 
 if TYPE_CHECKING:
@@ -67,6 +67,14 @@ class Corners:
             self.triangles.extend([number + at for at in pattern.triangles])
         self.number += pattern.number
 
+    def take(self, other: "Corners") -> None:
+        """Takes the corners of another one, which has told its triangles."""
+        self.tell_fours()
+        for own, more in ((self.places, other.places), (self.normals, other.normals), (self.maps, other.maps)):
+            own.extend(more)
+        self.triangles.extend([self.number + at for at in other.triangles])
+        self.number += other.number
+
     def tell_fours(self) -> None:
         if not self.triangles:
             self.triangles.extend(triangles_of_fours(self.fours))
@@ -75,7 +83,7 @@ class Corners:
         self.tell_fours()
         return {
             "material": material,
-            "indices": glb.accessor(self.triangles, "SCALAR", INDICES),
+            "indices": glb.accessor(short(self.triangles, self.number), "SCALAR", INDICES),
             "attributes": {
                 "POSITION": glb.accessor(self.places, "VEC3", VERTICES, has_bounds=True),
                 "NORMAL": glb.accessor(self.normals, "VEC3", VERTICES),

@@ -32,6 +32,9 @@ class Opened:
         self.given, self.lots, self.places, self.read = given, lots, places, town
         self.is_exact = given.is_script and town is None  # the numbers are those of the derivation, and not rounded
         self.ids: Optional[Dict[str, List[str]]] = None
+        self.told: Optional[
+            Tuple[Script, List[List[str]]]
+        ] = None  # the script and its replies, where solids aren't dressed
 
     @property
     def town(self) -> Town:
@@ -59,13 +62,14 @@ def add_words(known: Words) -> None:
     known.add_argument("--program")
 
 
-def opened(path: str, words: argparse.Namespace, is_ordered: bool = True) -> Opened:
-    """The town of a script at its end, or the last one of an OBJ text; solids in the order of `print`, where that is wanted."""
+def opened(path: str, words: argparse.Namespace, is_ordered: bool = True, is_bare: bool = False) -> Opened:
+    """The town of a script at its end, or the last one of an OBJ text; solids in the order of `print`, where that is wanted.
+    A bare one has solids also where the script dresses their symbols, if the program tells instances."""
     if path in KEPT and not is_ordered:
         return KEPT[path]
     found = given(path)
     check_words(words, found)
-    return read(found, words, is_ordered)
+    return read(found, words, is_ordered, is_bare)
 
 
 def opened_both(old: str, new: str, words: argparse.Namespace) -> Tuple[Opened, Opened]:
@@ -84,18 +88,20 @@ def check_words(words: argparse.Namespace, found: Given, *others: Given) -> None
         raise Refused(f"{found.path} is an OBJ text, and --program goes with a script")
 
 
-def read(found: Given, words: argparse.Namespace, is_ordered: bool) -> Opened:
+def read(found: Given, words: argparse.Namespace, is_ordered: bool, is_bare: bool = False) -> Opened:
     """Reads the town, which has many small objects, and no ring of them that would have to be looked for."""
     gc.disable()
     try:
-        return scripted(found, words, is_ordered) if found.is_script else Opened(found, *from_obj(found.text()))
+        return (
+            scripted(found, words, is_ordered, is_bare) if found.is_script else Opened(found, *from_obj(found.text()))
+        )
     finally:
         gc.freeze()
         gc.enable()
 
 
-def opened_drawn(path: str, words: argparse.Namespace, is_ordered: bool = True) -> Opened:
-    found = opened(path, words, is_ordered)
+def opened_drawn(path: str, words: argparse.Namespace, is_ordered: bool = True, is_bare: bool = False) -> Opened:
+    found = opened(path, words, is_ordered, is_bare)
     if not any(found.lots.values()):
         raise Refused(f"nothing is drawn in {path}")
     return found
@@ -109,15 +115,15 @@ def teller(program: Optional[str]) -> Optional[str]:
     return program if tells_changes(program) else None
 
 
-def scripted(found: Given, words: argparse.Namespace, is_ordered: bool) -> Opened:
+def scripted(found: Given, words: argparse.Namespace, is_ordered: bool, is_bare: bool) -> Opened:
     script = script_of(found.path, found.data, words.set)
-    program = None if script.is_dressed() else teller(words.program)
+    program = None if script.is_dressed() and not is_bare else teller(words.program)
     if program is None:
         return Opened(found, *from_town(asked(script, words.program or str(LAUNCHER))))
     told = told_by(program, script, is_ordered)
     tell(script, told.answers)
     opened = Opened(found, from_told(told), PLACES)
-    opened.ids = ids_of(opened.lots, told.ids)
+    opened.ids, opened.told = ids_of(opened.lots, told.ids), (script, told.answers)
     return opened
 
 

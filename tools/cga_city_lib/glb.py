@@ -7,6 +7,7 @@ from typing import Any, Dict, List, Optional, Set
 FLOAT, INDEX = 5126, 5125  # of 32 bits, as arrays of kind f and I hold them
 KINDS = {"f": FLOAT, "I": INDEX, "H": 5123}
 VERTICES, INDICES = 34962, 34963
+MOST_SHORT = 65_535  # corners up to which 16 bits number them
 SIZES = {"SCALAR": 1, "VEC2": 2, "VEC3": 3, "VEC4": 4}
 INSTANCING, TRANSFORM = "EXT_mesh_gpu_instancing", "KHR_texture_transform"
 
@@ -75,6 +76,11 @@ class Glb:
         if self.bytes:
             parts += [struct.pack("<I4s", len(self.bytes), b"BIN\0"), self.bytes]
         return b"".join([struct.pack("<4sII", b"glTF", 2, 12 + sum(map(len, parts))), *parts])
+
+
+def short(numbers: "array[Any]", count: int) -> "array[Any]":
+    """Numbers of so many corners, in 16 bits each where these hold them."""
+    return array("H", numbers) if count <= MOST_SHORT else numbers
 
 
 def little(values: "array[Any]") -> bytes:

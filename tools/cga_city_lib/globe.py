@@ -1,6 +1,6 @@
 """Where a town stands on the globe: its places in the map's reference system, in degrees, and in metres from the Earth's middle."""
 import math
-from typing import List, NamedTuple, Optional, Sequence, Tuple
+from typing import Any, Dict, List, NamedTuple, Optional, Sequence, Tuple
 
 from .call import Refused
 from .ground_file import Place
@@ -52,6 +52,20 @@ def globe_of(place: Place) -> Globe:
     is_degrees = place.units == "degrees"
     factor = float(METRES.get(place.units, METRES["metres"]))
     return Globe(place.system, is_degrees, (float(place.origin[0]), float(place.origin[1])), factor, float(place.angle))
+
+
+def place_told(place: Place) -> Dict[str, Any]:
+    """Where a town stands, as files tell it beside the town."""
+    globe = globe_of(place)
+    middle = globe.longitude_latitude()
+    degrees_told = {"longitude": middle[0], "latitude": middle[1]} if middle else {}
+    return {
+        "system": globe.code,
+        "origin": list(globe.middle),
+        "units": place.units,
+        "angle": globe.angle,
+        **degrees_told,
+    }
 
 
 def asked(code: str, point: Point) -> Optional[Point]:

@@ -8,7 +8,7 @@ from .call import Refused
 from .cityjson import faces_of
 from .drawing import boxes_of
 from .files import write
-from .globe import Matrix, globe_of, standing
+from .globe import Matrix, globe_of, place_told, standing
 from .ground_file import Ground
 from .ground_solids import solids_of
 from .instances import Lots, Reals, box_of
@@ -128,15 +128,10 @@ def place_tileset(source: Path, path: Path, ground: Ground) -> None:
 
 def town_glb(lots: Lots, ground: Ground) -> bytes:
     """The town as one file, with its place in `extras`."""
-    globe = globe_of(ground.place)
     tiles = Tiles(lots, ground)
     some = list(tiles.middles)
     faces = tiles.faces(some)
     symbols = {symbol: number for number, symbol in enumerate(dict.fromkeys(symbol for _, symbol, _ in faces))}
     told = [Face(lot, symbols[symbol], corners) for lot, symbol, corners in faces]
-    place = {"system": globe.code, "origin": list(globe.middle), "units": ground.place.units, "angle": globe.angle}
-    middle = globe.longitude_latitude()
-    place.update({"longitude": middle[0], "latitude": middle[1]} if middle else {})
-    return lot_tile(
-        told, (tiles.table(some), Table("symbol", {"symbol": list(symbols)})), (0.0, 0.0, 0.0), {"place": place}
-    )
+    tables = (tiles.table(some), Table("symbol", {"symbol": list(symbols)}))
+    return lot_tile(told, tables, (0.0, 0.0, 0.0), {"place": place_told(ground.place)})

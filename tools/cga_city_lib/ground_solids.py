@@ -3,7 +3,9 @@ from typing import Dict, Iterator, List, Optional, Sequence, Tuple
 
 from .flat import Box, Point, band, cut_line, cut_ring, grown, triangles
 from .ground_file import Ground, read_ground
+from .instances import Lots
 from .obj import Solid, Town
+from .obj_instances import from_town
 
 LOT = "ground"
 MARGIN = 15.0  # so far beyond the parcels the ground is drawn
@@ -65,6 +67,11 @@ def put(town: Town, ground: Ground) -> Town:
         solids += [Solid(symbol, [[first + at for at in face]]) for face in faces]
     town.lots = {LOT: solids, **town.lots}
     return town
+
+
+def lots_of(ground: Ground) -> Lots:
+    """The ground as a lot of instances."""
+    return from_town(put(Town([]), ground)).lots
 
 
 def with_ground(town: Town, path: Optional[str]) -> Town:

@@ -6,12 +6,11 @@ from typing import Any, Dict, Iterable, List, NamedTuple, Sequence, Tuple
 
 from .colours import colour_of
 from .eye import normal
-from .glb import INDICES, VERTICES, Glb
+from .glb import INDICES, VERTICES, Glb, short
 from .materials import linear
 from .parcel_list import shown
 
 FEATURES, METADATA = "EXT_mesh_features", "EXT_structural_metadata"
-MOST_SHORT = 65_535
 Corner = Tuple[float, float, float]
 
 
@@ -38,9 +37,6 @@ class Mesh:
         for k in range(1, len(face.corners) - 1):
             self.triangles.extend((first, first + k, first + k + 1))
 
-    def indices(self) -> "array[int]":
-        return array("H", self.triangles) if len(self.lots) <= MOST_SHORT else self.triangles
-
     def primitive(self, made: Glb, colour: Tuple[int, int, int], counts: Sequence[int]) -> Dict[str, Any]:
         ids = [{"featureCount": count, "attribute": at, "propertyTable": at} for at, count in enumerate(counts)]
         return {
@@ -50,7 +46,7 @@ class Mesh:
                 "_FEATURE_ID_0": made.accessor(self.lots, "SCALAR", VERTICES),
                 "_FEATURE_ID_1": made.accessor(self.symbols, "SCALAR", VERTICES),
             },
-            "indices": made.accessor(self.indices(), "SCALAR", INDICES),
+            "indices": made.accessor(short(self.triangles, len(self.lots)), "SCALAR", INDICES),
             "material": material(made, colour),
             "extensions": {FEATURES: {"featureIds": ids}},
         }

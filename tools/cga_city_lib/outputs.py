@@ -22,7 +22,7 @@ TOOLS = LAUNCHER.parent / "tools"
 # the tool that makes a file by its ending, and whether it prints what stands in the file
 MAKERS = {
     ".merged.obj": (TOOLS / "merge", False),
-    ".glb": (LAUNCHER.parent / "examples" / "pipeline" / "glb", False),
+    ".glb": (TOOLS / "glb", False),
     ".png": (TOOLS / "picture", False),
     ".html": (TOOLS / "view", False),
     ".json": (TOOLS / "places", False),

@@ -3,7 +3,7 @@ import json
 import struct
 
 FORMS = {"SCALAR": 1, "VEC2": 2, "VEC3": 3, "VEC4": 4}
-KINDS = {5126: "f", 5125: "I"}
+KINDS = {5126: "f", 5125: "I", 5123: "H"}
 
 
 class Reader:
@@ -26,9 +26,12 @@ class Reader:
         """The entries of an accessor, checked against its bounds."""
         told = self.told["accessors"][number]
         width, kind = FORMS[told["type"]], KINDS[told["componentType"]]
-        data = self.view(told["bufferView"])
-        assert len(data) == 4 * width * told["count"]
-        flat = struct.unpack(f"<{width * told['count']}{kind}", data)
+        data, form = self.view(told["bufferView"]), struct.Struct(f"<{width * told['count']}{kind}")
+        assert len(data) == form.size
+        flat = form.unpack(data)
+        assert (
+            kind == "f" or max(flat) < (1 << 8 * form.size // len(flat)) - 1
+        )  # the greatest number begins a strip anew
         entries = list(zip(*[iter(flat)] * width))
         if "min" in told:
             assert [list(map(bound, zip(*entries))) for bound in (min, max)] == [told["min"], told["max"]]
@@ -60,13 +63,27 @@ class Reader:
                 yield from self.instances(node["name"], self.told["nodes"][child], low)
 
     def instances(self, lot, node, low):
+        """Of a node that has a child for each, or tells them by the extension."""
+        for child in node.get("children", []):
+            told = self.told["nodes"][child]
+            entry = told["translation"], told.get("rotation", (0, 0, 0, 1)), told["scale"]
+            yield from self.instance(lot, told["mesh"], entry, low)
+        if "extensions" in node:
+            yield from self.packed(lot, node, low)
+
+    def packed(self, lot, node, low):
         told = node["extensions"]["EXT_mesh_gpu_instancing"]["attributes"]
         found = list(zip(*(self.values(told[name]) for name in ("TRANSLATION", "ROTATION", "SCALE"))))
         assert len(found) == len(node["extras"]["ids"])
-        for move, turn, size in found:
-            yield from self.placed(
-                lot, node["mesh"], lambda point: add(add(turned(turn, [a * b for a, b in zip(point, size)]), move), low)
-            )
+        for entry in found:
+            yield from self.instance(lot, node["mesh"], entry, low)
+
+    def instance(self, lot, mesh, entry, low):
+        move, turn, size = entry
+        assert all(size)
+        yield from self.placed(
+            lot, mesh, lambda point: add(add(turned(turn, [a * b for a, b in zip(point, size)]), move), low)
+        )
 
     def placed(self, lot, mesh, place):
         for symbol, corners in self.triangles(mesh):

@@ -19,7 +19,7 @@ from cga_city_lib.version import VERSION  # noqa: E402
 
 TOOLS = [
     path
-    for path in [*sorted((TOP / "tools").iterdir()), TOP / "examples/pipeline/glb"]
+    for path in sorted((TOP / "tools").iterdir())
     if path.is_file() and not path.suffix and path.read_bytes().startswith(b"#!/usr/bin/env python3")
 ]
 

@@ -47,7 +47,7 @@ class Files(unittest.TestCase):
         self.source, self.target = self.folder / "town.obj", self.folder / "town.glb"
 
     def call(self, *words):
-        return called(TOP / "examples/pipeline/glb", *words, self.source, self.target)
+        return called(TOP / "tools/glb", *words, self.source, self.target)
 
     def read(self, *words):
         status, self.said, fault = self.call(*words)
@@ -80,14 +80,15 @@ class Geometry(Files):
     def test_towns_stand_where_they_were_printed(self):
         for at, angle in (((0, 0, 0), 0), (MAP, 0.4)):
             self.source.write_text(a_town(at, angle), encoding="utf-8")
-            for words in ((), ("--instances",), ("--instance", "hip0", "--instance", "gable1")):
+            two = ("--instance", "hip0", "--instance", "gable1")
+            for words in ((), ("--instances",), two, (*two, "--gpu-instancing")):
                 with self.subTest((at, angle, words)):
                     self.compare(self.read(*words))
 
     def test_what_floats_hold_is_near(self):
         """Far from the origin as well no number in the file is so large that a float of 32 bits is a thousandth off."""
         self.source.write_text(a_town(MAP, 0.4), encoding="utf-8")
-        for words in ((), ("--instances",)):
+        for words in ((), ("--instances", "--gpu-instancing")):
             reader = self.read(*words)
             (root,) = reader.told["scenes"][0]["nodes"]
             self.assertEqual(reader.told["nodes"][root]["extras"], {"offset": [2683000, 0, 1247000], "metres": 1})
@@ -109,7 +110,8 @@ class Geometry(Files):
     def test_nodes_and_extensions(self):
         self.source.write_text(a_town((0, 0, 0), 0), encoding="utf-8")
         self.assertNotIn("extensionsUsed", self.read().told)
-        told = self.read("--instances").told
+        self.assertNotIn("extensionsUsed", self.read("--instances").told)
+        told = self.read("--instances", "--gpu-instancing").told
         self.assertEqual(told["extensionsRequired"], ["EXT_mesh_gpu_instancing"])
         self.assertEqual([node["name"] for node in told["nodes"] if "translation" in node], ["a", "b"])
         # two symbols for each kind; gables by the way of their ridge, hips by their share of slope as well
@@ -120,6 +122,9 @@ class Geometry(Files):
         )
         told = self.read("--instance", "cube0").told
         self.assertEqual([mesh["name"] for mesh in told["meshes"]], ["a", "cube0.cube"])
+        shared = [node["name"] for node in told["nodes"] if node.get("mesh") == 1]
+        self.assertEqual(shared, ["a#0", "a#2", "b#0"])
+        told = self.read("--instance", "cube0", "--gpu-instancing").told
         ids = [
             node["extras"]["ids"] for node in told["nodes"] if "EXT_mesh_gpu_instancing" in node.get("extensions", {})
         ]
@@ -132,7 +137,7 @@ class Geometry(Files):
             ("a", "pane", "cube", (5, 0, 0), UPRIGHT, (1, 2, 0)),
         ]
         self.source.write_text(solid_table.text(solids), encoding="utf-8")
-        reader = self.read("--instances")
+        reader = self.read("--instances", "--gpu-instancing")
         self.compare(reader)
         names = [mesh["name"] for mesh in reader.told["meshes"]]
         self.assertEqual(sorted(names), ["a", "wall.quad"])

@@ -209,6 +209,10 @@ class Towns(Called):
         self.assertEqual(self.made(".glb", *self.features()), (0, "", ""))
         told, _, _ = self.tile(self.out)
         place = told["nodes"][0]["extras"]["place"]
+        status, _, fault = called("glb", "--ground", self.ground, self.town, self.top / "own.glb")
+        self.assertEqual((status, fault), (0, ""))
+        nodes = self.tile(self.top / "own.glb")[0]["nodes"]
+        self.assertEqual((nodes[0]["name"], nodes[-1]["extras"]["place"]), ("ground", place))
         self.assertEqual(
             (place["system"], place["angle"], place["origin"]),
             ("EPSG:4326", 0, [place["longitude"], place["latitude"]]),

@@ -87,9 +87,9 @@ USES = [  # the words, the status, and a part of what is said
     ("format", 2, "required: script"),
     ("port nofile", 1, "nofile: No such file or directory"),
     ("port empty.cga", 1, "has no rule: a rule of CGA is written"),
-    ("../examples/pipeline/glb v.obj", 2, "required: target"),
-    ("../examples/pipeline/glb v.obj folder", 1, "folder: Is a directory"),
-    ("../examples/pipeline/glb --instance wal v.obj x.glb", 1, "symbols that draw are wall"),
+    ("glb v.obj", 2, "required: target"),
+    ("glb v.obj folder", 1, "folder: Is a directory"),
+    ("glb --instance wal v.obj x.glb", 1, "symbols that draw are wall"),
 ]
 
 

@@ -1,0 +1,177 @@
+"""Meshes of one's own: files that are read, and where their corners come in what is written."""
+import math
+import sys
+import tempfile
+import unittest
+from array import array
+from pathlib import Path
+
+TESTS = Path(__file__).resolve().parent
+sys.path[:0] = [str(TESTS), str(TESTS.parent)]
+
+import own_window  # noqa: E402
+from glb_reader import Reader  # noqa: E402
+from in_process import called  # noqa: E402
+from cga_city_lib.glb import INDICES, VERTICES, Glb  # noqa: E402
+from cga_city_lib.own_mesh_glb import read_glb  # noqa: E402
+from cga_city_lib.own_mesh_obj import read_obj  # noqa: E402
+from cga_city_lib.png import png  # noqa: E402
+
+
+class Files(unittest.TestCase):
+    def setUp(self):
+        folder = tempfile.TemporaryDirectory()
+        self.addCleanup(folder.cleanup)
+        self.folder = Path(folder.name)
+        own_window.put(self.folder)
+
+    def write(self, name, text):
+        (self.folder / name).write_text(text, encoding="utf-8")
+        return self.folder / name
+
+    def glb(self, *words, town="town.obj"):
+        status, said, fault = called("glb", *words, town, "town.glb", folder=self.folder)
+        self.assertEqual((status, fault), (0, ""))
+        return Reader((self.folder / "town.glb").read_bytes())
+
+
+def rounded(corners):
+    return [tuple(round(part, 4) + 0.0 for part in corner) for corner in corners]
+
+
+class Obj(Files):
+    def test_corners_come_to_the_ends_of_the_box(self):
+        mesh = read_obj(self.folder / "window.obj")
+        pane, frame = mesh.parts
+        self.assertEqual(pane.corners, [(0, 0, 0), (1, 0, 0), (0, 1, 0)])
+        self.assertEqual(frame.corners, [(0, 0, 1), (1, 0, 1), (0, 1, 1)])
+        self.assertEqual((pane.surface.opacity, frame.surface.shown()), (0.25, (255, 0, 0)))
+        self.assertEqual([part.surface.material() for part in mesh.parts], ["glass", "plain"])
+
+    def test_a_flat_mesh_lies_at_the_beginning_and_a_line_may_go_on(self):
+        path = self.write("flat.obj", "v 1 1 5\nv 3 1 5\nv 1 2 \\\n5\nvt 0 0\nvt 1 0\nvt 0 1\nf 1/1 2/2 3/3\n")
+        (part,) = read_obj(path).parts
+        self.assertEqual(part.corners, [(0, 0, 0), (1, 0, 0), (0, 1, 0)])
+        self.assertEqual(part.maps, [(0, 1), (1, 1), (0, 0)])  # v of an OBJ counts up, and of a glTF file down
+
+    def test_what_cannot_be_read_is_told_by_its_line(self):
+        for text, told in (
+            ("v 0 0\n", "bad.obj:1: `v 0 0` is no line of an OBJ file"),
+            ("v 0 0 0\nf 1 0 1\n", "bad.obj:2: `f 1 0 1` is no line"),
+            ("v 0 0 0\nf 1 1 7\n", "bad.obj: a face names vertex 7, and 1 are there"),
+            ("v 0 0 0\n", "bad.obj: the mesh has no face"),
+            ("mtllib no.mtl\n", "no.mtl: No such file or directory"),
+            ("v 0 nan 0\n", "bad.obj:1: `v 0 nan 0` is no line"),
+        ):
+            with self.subTest(text):
+                self.write("bad.obj", text)
+                status, out, fault = called("glb", "--mesh", "window=bad.obj", "town.obj", "x.glb", folder=self.folder)
+                self.assertEqual((status, out, fault.count("\n")), (1, "", 1))
+                self.assertIn(told, fault)
+                self.assertFalse((self.folder / "x.glb").exists())
+
+
+def a_glb(places=(0, 0, 0, 2, 0, 0, 0, 4, 0), **more):
+    """A triangle in a node that is turned by 90 degrees about Y and twice as large, below one that is moved."""
+    made = Glb()
+    view = made.view(png([b"\x80\x40\x20" * 2] * 2))
+    image = made.add("images", {"bufferView": view, "mimeType": "image/png"})
+    texture = made.add("textures", {"source": image, "sampler": made.add("samplers", {"wrapS": 33071})})
+    rough = {"baseColorFactor": [0.1, 0.2, 0.3, 0.5], "baseColorTexture": {"index": texture}, "roughnessFactor": 0}
+    made.add("materials", {"name": "pane", "alphaMode": "BLEND", "pbrMetallicRoughness": rough})
+    part = {
+        "attributes": {
+            "POSITION": made.accessor(array("f", places), "VEC3", VERTICES, has_bounds=True),
+            "TEXCOORD_0": made.accessor(array("f", [0, 0, 1, 0, 0, 1]), "VEC2", VERTICES),
+        },
+        "indices": made.accessor(array("H", [0, 1, 2]), "SCALAR", INDICES),
+        "material": 0,
+        **more,
+    }
+    s = math.sqrt(0.5)
+    turned = {"rotation": [0, s, 0, s], "scale": [2, 2, 2], "mesh": made.add("meshes", {"primitives": [part]})}
+    return made.file([made.add("nodes", {"translation": [7, 8, 9], "children": [made.add("nodes", turned)]})])
+
+
+class OfGlb(Files):
+    def test_nodes_and_materials_are_kept(self):
+        """Ry(90) takes (x, y, z) to (z, y, -x): the triangle is flat along X, and its (2, 0, 0) lies at -4 along Z."""
+        (self.folder / "window.glb").write_bytes(a_glb())
+        mesh = read_glb(self.folder / "window.glb")
+        self.assertEqual([round(part, 6) for part in mesh.low], [7, 8, 5])
+        self.assertEqual([round(part, 6) for part in mesh.span], [0, 8, 4])
+        self.assertEqual(rounded(mesh.parts[0].corners), [(0, 0, 1), (0, 0, 0), (0, 1, 1)])
+        reader = self.glb("--mesh", "window=window.glb")
+        pane = next(told for told in reader.told["materials"] if told["name"] == "pane")
+        self.assertEqual(pane["alphaMode"], "BLEND")
+        self.assertEqual(pane["pbrMetallicRoughness"]["baseColorFactor"], [0.1, 0.2, 0.3, 0.5])
+        texture = reader.told["textures"][pane["pbrMetallicRoughness"]["baseColorTexture"]["index"]]
+        self.assertEqual(reader.told["samplers"][texture["sampler"]], {"wrapS": 33071})
+        picture = reader.view(reader.told["images"][texture["source"]]["bufferView"])
+        self.assertEqual(picture, png([b"\x80\x40\x20" * 2] * 2))
+        # (0, 0, 1) of the box stands at (2 + 8, 1, 3), (0, 0, 0) at (2, 1, 3), (0, 1, 1) at (10, 7, 3)
+        ((_, _, corners, told),) = [found for found in reader.world() if found[1] == "pane"]
+        self.assertEqual(rounded(corners), [(10, 1, 3), (2, 1, 3), (10, 7, 3)])
+        self.assertEqual([uv for _, _, uv in told], [(0, 0), (1, 0), (0, 1)])
+
+    def test_what_cannot_be_read_is_told(self):
+        sound = a_glb()
+        for data, told in (
+            (b"solid", "isn't a glTF file in one piece"),
+            (sound[:60], "is cut off"),
+            (sound.replace(b'"version":"2.0"', b'"version":"2.0","extensionsRequired":["KHR_draco"]'), "isn't a"),
+            (a_glb(indices=99), "isn't a sound glTF file"),
+            (a_glb(mode=1), "its scene has no triangle"),
+            (a_glb(places=(0, 0, 0, 1, 0, 0)), "a triangle whose corner isn't there"),
+        ):
+            with self.subTest(told):
+                (self.folder / "bad.glb").write_bytes(data)
+                status, _, fault = called("glb", "--mesh", "window=bad.glb", "town.obj", "x.glb", folder=self.folder)
+                self.assertEqual((status, fault.count("\n")), (1, 1))
+                self.assertIn(told, fault)
+
+
+class InGlb(Files):
+    def test_corners_come_to_known_places(self):
+        for words in ((), ("--gpu-instancing",)):
+            with self.subTest(words):
+                reader = self.glb("--mesh", "window=window.obj", *words)
+                found = {name: corners for _, name, corners, _ in reader.world() if name != "wall"}
+                self.assertEqual({name: rounded(corners) for name, corners in found.items()}, own_window.STANDS)
+                self.assertEqual("extensionsUsed" in reader.told, bool(words))
+
+    def test_materials_and_nodes(self):
+        told = self.glb("--mesh", "window=window.obj").told
+        materials = {material["name"]: material for material in told["materials"]}
+        self.assertEqual(set(materials), {"wall", "pane", "frame"})
+        pane = materials["pane"]
+        self.assertEqual(pane["alphaMode"], "BLEND")
+        for part, wanted in zip(pane["pbrMetallicRoughness"]["baseColorFactor"], [own_window.HALF] * 3 + [0.25]):
+            self.assertAlmostEqual(part, wanted)
+        self.assertNotIn("alphaMode", materials["frame"])
+        shared = next(number for number, mesh in enumerate(told["meshes"]) if mesh["name"] == "window")
+        self.assertEqual([node["name"] for node in told["nodes"] if node.get("mesh") == shared], ["a#0"])
+        kinds = {
+            told["accessors"][part["indices"]]["componentType"]
+            for mesh in told["meshes"]
+            for part in mesh["primitives"]
+        }
+        self.assertEqual(kinds, {5123})
+
+    def test_a_solid_without_depth_has_the_mesh_pressed_flat(self):
+        """The quad's box has no depth: all corners of the window lie in the plane of the wall, in the lot's own mesh."""
+        reader = self.glb("--mesh", "wall=window.obj")
+        found = [rounded(corners) for _, name, corners, _ in reader.world() if name in ("pane", "frame")]
+        self.assertEqual(found, [[(0, 0, 0), (1, 0, 0), (0, 1, 0)]] * 2)
+        self.assertEqual([node["name"] for node in reader.told["nodes"]], ["a", "town"])
+
+    def test_a_symbol_that_draws_nothing_and_a_wrong_word(self):
+        wrong = (("wndow=window.obj", 1, "nothing is drawn by 'wndow'"), ("window", 2, "isn't SYMBOL=FILE"))
+        for word, status, told in (*wrong, ("window=window.fbx", 2, "isn't SYMBOL=FILE, such as window=window.glb")):
+            found = called("glb", "--mesh", word, "town.obj", "x.glb", folder=self.folder)
+            self.assertEqual(found[0], status)
+            self.assertIn(told, found[2])
+
+
+if __name__ == "__main__":
+    unittest.main()
