@@ -1,7 +1,7 @@
 """Which boxes touch, found by a sweep. A box is its least and its greatest number on each axis, one axis behind the other,
 as whole numbers over one denominator: never floats, which would tell boxes apart that touch."""
 from collections import defaultdict
-from typing import Dict, Iterator, List, Sequence, Set, Tuple
+from typing import Any, Dict, Iterator, List, Sequence, Set, Tuple
 
 Box = Sequence[int]
 MOST_STRIPS = 32  # a box over more strips than that is compared with all others
@@ -38,6 +38,18 @@ def touching(boxes: Sequence[Box]) -> Iterator[Tuple[int, int]]:
             for other in range(len(boxes))
             if (other not in wide or other > at) and touch(boxes[at], boxes[other])
         )
+
+
+def touching_alike(boxes: Sequence[Box], kinds: Sequence[Any]) -> Iterator[Tuple[int, int]]:
+    """The same of boxes of one kind, as are those that are told in one frame."""
+    if len(set(kinds)) < 2:
+        yield from touching(boxes)
+        return
+    places = defaultdict(list)
+    for at, kind in enumerate(kinds):
+        places[kind].append(at)
+    for some in places.values():
+        yield from ((some[one], some[other]) for one, other in touching([boxes[at] for at in some]))
 
 
 def swept(boxes: Sequence[Box], along: int, strips: List[Tuple[int, int]], wide: Set[int]) -> Iterator[Tuple[int, int]]:

@@ -3,7 +3,7 @@ from collections import Counter, defaultdict
 from math import gcd
 from typing import Any, Dict, Iterator, List, Sequence, Tuple
 
-from .apart import Sets, touching
+from .apart import Sets, touching_alike
 from .call import Refused
 
 Box = Tuple[int, ...]
@@ -56,15 +56,15 @@ def within(boxes: Sequence[Box], area: Box) -> List[int]:
     ]
 
 
-def across_jobs(jobs: Sequence[List[Box]]) -> Iterator[Tuple[Place, Place]]:
-    """The pairs of lots of two jobs whose boxes touch; a lot is its job and its place there. Only lots are compared that
-    reach another job's box."""
+def across_jobs(jobs: Sequence[List[Box]], angles: Sequence[float]) -> Iterator[Tuple[Place, Place]]:
+    """The pairs of lots of two jobs of one angle whose boxes touch; a lot is its job and its place there. Only lots are
+    compared that reach another job's box."""
     wholes, near = list(map(around, jobs)), defaultdict(set)
-    for one, other in touching(wholes):
+    for one, other in touching_alike(wholes, angles):
         near[one].update(within(jobs[one], wholes[other]))
         near[other].update(within(jobs[other], wholes[one]))
     lots = [(job, at) for job, places in sorted(near.items()) for at in sorted(places)]
-    for one, other in touching([jobs[job][at] for job, at in lots]):
+    for one, other in touching_alike([jobs[job][at] for job, at in lots], [angles[job] for job, _ in lots]):
         if lots[one][0] != lots[other][0]:
             yield lots[one], lots[other]
 
@@ -78,7 +78,6 @@ def touching_districts(plan: Any, told: Sequence[Any]) -> List[Tuple[int, int]]:
             "with the program cga_hulls"
         )
     sets = Sets(len(plan.lots))
-    pairs = (
-        (jobs[one].own[at], jobs[other].own[place]) for (one, at), (other, place) in across_jobs(list(over_all(told)))
-    )
+    found = across_jobs(list(over_all(told)), [job.angle for job in jobs])
+    pairs = ((jobs[one].own[at], jobs[other].own[place]) for (one, at), (other, place) in found)
     return [pair for pair in pairs if sets.join(*pair)]

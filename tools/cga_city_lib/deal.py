@@ -1,36 +1,61 @@
-"""Deals the lots of a region to jobs by place: each job has the lots of a square of a quadtree."""
+"""Deals the lots of a region to jobs by place and by angle: each job has the lots of one angle in a square of a quadtree."""
+import math
 from collections import defaultdict, namedtuple
 from typing import Any, Dict, Iterable, Iterator, List, Sequence, Set, Tuple
 
-from .apart import Sets, touching
+from .apart import Sets, touching_alike
 from .call import Refused
 from .program import MOST_LOTS
 from .quadtree import Quadtree
+from .rectangle import turned
 from .region import Region
 
 Pair = Tuple[int, int]  # two lots by their places
 
-# places of lots: those that the job is for, and the neighbours that it derives with them
-Share = namedtuple("Share", "own ring square")
+# places of lots: those that the job is for, and the neighbours that it derives with them; all lie at the angle
+Share = namedtuple("Share", "own ring square angle")
 
 
-def by_place(grounds: Tuple[int, Sequence[Any]], groups: List[List[int]], most: int) -> Iterator[Share]:
-    """Groups of lots in squares of at most so many lots, or of one group, each with its places in the script's order."""
-    one, boxes = grounds
-    points = [(min(boxes[at][0] for at in group) // one, min(boxes[at][2] for at in group) // one) for group in groups]
+def by_place(region: Region, groups: List[List[int]], most: int) -> Iterator[Share]:
+    """Groups of lots in squares of at most so many lots, or of one group, each with its places in the script's order. Lots of
+    a group lie at one angle, and those of a square are apart by it."""
+    one, boxes = region.grounds()
+    points = [corner(one, [boxes[at] for at in group], region.angles[group[0]]) for group in groups]
     for square, items in Quadtree(points, list(map(len, groups)), most).leaves():
-        yield Share(sorted(at for item in items for at in groups[item]), [], square)
+        for angle, some in by_angle(items, [region.angles[groups[item][0]] for item in items]):
+            yield Share(sorted(at for item in some for at in groups[item]), [], square, angle)
+
+
+def corner(one: int, boxes: Sequence[Any], angle: float) -> Pair:
+    """The least corner of a group, whole, as it lies in the town."""
+    x, z = (min(box[at] for box in boxes) for at in (0, 2))
+    if not angle:
+        return x // one, z // one
+    far_x, far_z = turned((x / one, z / one), -angle)
+    return math.floor(far_x), math.floor(far_z)
+
+
+def by_angle(items: Sequence[Any], angles: Sequence[float]) -> List[Tuple[float, List[Any]]]:
+    found = defaultdict(list)
+    for item, angle in zip(items, angles):
+        found[angle].append(item)
+    return sorted(found.items())
 
 
 def singly(region: Region, options: Any) -> Iterator[Share]:
     """Where no rule asks, each lot by itself."""
-    return by_place(region.grounds(), [[at] for at in range(len(region.lots))], options.most)
+    return by_place(region, [[at] for at in range(len(region.lots))], options.most)
+
+
+def near_grounds(region: Region, options: Any) -> Iterator[Pair]:
+    """Lots of one angle whose grounds touch."""
+    return touching_alike(region.grounds(options.reach)[1], region.angles)
 
 
 def districts(region: Region, options: Any, together: Iterable[Pair]) -> List[List[int]]:
     """Lots whose grounds touch, or that a check has put together, stay in one job."""
     sets = Sets(len(region.lots))
-    for one, other in [*touching(region.grounds(options.reach)[1]), *together]:
+    for one, other in [*near_grounds(region, options), *together]:
         sets.join(one, other)
     return list(sets.members().values())
 
@@ -43,7 +68,7 @@ def whole_districts(region: Region, options: Any, together: Iterable[Pair]) -> T
             f"{region.path}: the district of the lot `{name(region, largest)}` has {len(largest)} lots that touch, and a run "
             f"takes {MOST_LOTS}: put a street through it, or cut with --rings 2, which derives squares with their neighbours"
         )
-    return len(groups), by_place(region.grounds(), groups, options.most)
+    return len(groups), by_place(region, groups, options.most)
 
 
 def name(region: Region, places: Sequence[int]) -> str:
@@ -53,7 +78,7 @@ def name(region: Region, places: Sequence[int]) -> str:
 def neighbours(region: Region, options: Any, seen: Iterable[Pair]) -> Dict[int, Set[int]]:
     """Of each lot those whose grounds touch its own, or that see it from afar."""
     near = defaultdict(set)
-    for one, other in [*touching(region.grounds(options.reach)[1]), *seen]:
+    for one, other in [*near_grounds(region, options), *seen]:
         near[one].add(other)
         near[other].add(one)
     return near
@@ -80,7 +105,7 @@ def with_rings(
     for one, other in together:
         sets.join(one, other)
     groups, near = list(sets.members().values()), neighbours(region, options, seen)
-    for share in by_place(region.grounds(), groups, options.most):
+    for share in by_place(region, groups, options.most):
         ring = ring_of(share.own, near, options.rings, more)
         if len(share.own) + len(ring) > MOST_LOTS:
             raise Refused(
@@ -96,6 +121,6 @@ def coarser(shares: Sequence[Share], most: int) -> Iterator[Share]:
     tree = Quadtree([share.square[:2] for share in shares], [len(share.own) for share in shares], min(most, MOST_LOTS))
     for square, items in tree.leaves():
         squares = [square, *(tuple(shares[item].square) for item in items)]
-        yield Share(
-            sorted(at for item in items for at in shares[item].own), [], max(squares, key=lambda found: found[2])
-        )
+        largest = max(squares, key=lambda found: found[2])
+        for angle, some in by_angle(items, [shares[item].angle for item in items]):
+            yield Share(sorted(at for item in some for at in shares[item].own), [], largest, angle)

@@ -16,6 +16,7 @@ from .program import MOST_LOTS, is_proved, ready
 from .quadtree import EDGE
 from .region import Region
 from .rounds import outcome
+from .over_angles import sentence, unseen_pairs, unseen_text
 from .strangers_text import told
 from .survey import Survey
 
@@ -89,8 +90,19 @@ def checked(folder, to, is_whole=False):
     text = " ".join(f"{word} {number}" for word, number in counts.items())
     if can_write(to):
         tell(to, {"town.bill": bill_text(bill)} if "bill" in plan.asked else {}, text, line_of(plan.digest()))
+    if plan.asks() and plan.is_turned():
+        tell_unseen(to, plan, [survey.told[job.name] for job in plan.drawn()])
     print(f"{folder}: {text}")
     return 0
+
+
+def tell_unseen(to, plan, told):
+    """Tells between which lots no question is asked; once, where that can be written down."""
+    path = to / "town.unseen"
+    pairs = unseen_pairs(plan, told)
+    is_new = not can_write(to) or write(path, unseen_text(pairs).encode("latin-1") + line_of(plan.digest()))
+    if pairs and is_new:
+        print(sentence(pairs, path), file=sys.stderr)
 
 
 def begin_check(to, plan):

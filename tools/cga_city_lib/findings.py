@@ -35,7 +35,10 @@ class Lots:
     """The lots of a script as findings name them."""
 
     def __init__(self, region):
-        self.keys = [f"{name} {' '.join(ground)}" for name, ground in zip(region.names, zip(*region.columns))]
+        self.keys = [
+            f"{name} {' '.join(ground)}{f' turned {angle:g}' if angle else ''}"
+            for name, ground, angle in zip(region.names, zip(*region.columns), region.angles)
+        ]
         self.places = {}
 
     def place(self, key):

@@ -13,7 +13,7 @@ from .ground_file import Ground
 from .ground_solids import solids_of
 from .instances import Lots, Reals, box_of
 from .lot_tile import Corner, Face, Table, lot_table, lot_tile
-from .tileset import Tile
+from .tileset import Frame, Tile
 
 MOST_LOTS = 100  # of a tile
 FINE = 1000  # boxes are rounded outwards to so many parts of a unit
@@ -83,7 +83,7 @@ class Tiles:
         told = [Face(lot, symbols[symbol], corners) for lot, symbol, corners in faces]
         tables = (table, Table("symbol", {"symbol": list(symbols)}))
         self.files[name] = lot_tile(told, tables, (float(square[0]), 0.0, float(square[1])), {})
-        return Tile(square, box, 0.0, name)
+        return Tile(square, box, 0.0, name, Frame((square[0], 0, square[1]), 0))
 
 
 def times(one: Matrix, other: Matrix) -> Matrix:

@@ -86,7 +86,8 @@ class Halos:
     def missing(self):
         """Own lots with lots of other jobs that they touch, and that weren't derived with them."""
         rings = [set(job.ring) for job in self.jobs]
-        for pair in across_jobs([boxes[: len(job.own)] for job, boxes in zip(self.jobs, self.boxes)]):
+        own = [boxes[: len(job.own)] for job, boxes in zip(self.jobs, self.boxes)]
+        for pair in across_jobs(own, [job.angle for job in self.jobs]):
             for (one, at), (other, place) in (pair, pair[::-1]):
                 lot, neighbour = self.jobs[one].own[at], self.jobs[other].own[place]
                 if neighbour not in rings[one]:

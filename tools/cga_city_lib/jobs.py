@@ -101,7 +101,7 @@ class Cut:
             script = self.heads[level].script(lots, listed)
             name = self.program.job(script)
             write(self.folder / "jobs" / f"{name}.cga", script)
-            yield Job(name, share.own, share.ring, share.square, level)
+            yield Job(name, share.own, share.ring, share.square, level, share.angle)
 
     def make(self):
         """Gives the plan and the number of districts. Files that are as they are to be are left alone."""

@@ -13,11 +13,12 @@ from .of_plan import line_of
 from .printed import OBJ, Printed, reading
 from .progress import counted
 from .towns import moved, objects
+from .turned_text import turned_back
 
 PIECES = 4  # for each worker, so that none waits long for the last one
 
-# what is copied of a job's output, by how much its faces move
-Span = namedtuple("Span", "path begin end by")
+# what is copied of a job's output, by how much its faces move, and by how many degrees its places are turned back
+Span = namedtuple("Span", "path begin end by angle")
 
 
 @contextmanager
@@ -72,12 +73,12 @@ def spans(folder, plan, pool, text):
     for job, (path, *_), places in zip(jobs, given, pool(indexed, given)):
         before = 0
         for at, place in zip(job.own, places):
-            found[at] = path, place, before
+            found[at] = path, place, before, job.angle
             before += place.vertices
     before = 0
     for at in range(len(plan.lots)):
-        path, place, here = found[at]
-        yield Span(path, place.begin, place.end, before - here)
+        path, place, here, angle = found[at]
+        yield Span(path, place.begin, place.end, before - here, angle)
         before += place.vertices
 
 
@@ -101,7 +102,7 @@ def write_piece(given):
             with source.open("rb") as opened, reading(source):
                 for span in spans_of:
                     opened.seek(span.begin)
-                    piece.write(moved(opened.read(span.end - span.begin), span.by))
+                    piece.write(turned_back(moved(opened.read(span.end - span.begin), span.by), span.angle))
     return path
 
 

@@ -5,11 +5,15 @@ from typing import List, Match, Optional, Tuple
 from .script import LONGEST, words_of
 
 VALUE = r"(-?\d+(?:\.\d+|/\d+)?)"
-USUAL = re.compile(rf"lot ([A-Za-z_]\w*) (\d+(?:\.0+)?) {VALUE} {VALUE} {VALUE} {VALUE} ([A-Za-z_]\w*)", re.ASCII)
+TURNED = r"(?: turned (\d{1,3}(?:\.\d{1,9})?))?"  # of a region alone: the program refuses such a line
+USUAL = re.compile(
+    rf"lot ([A-Za-z_]\w*) (\d+(?:\.0+)?) {VALUE} {VALUE} {VALUE} {VALUE} ([A-Za-z_]\w*){TURNED}", re.ASCII
+)
 
 
 def usual(line: str) -> Optional[Match[str]]:
-    """The match of a line with one blank between its parts: the name, the seed, four values and the symbol; else None."""
+    """The match of a line with one blank between its parts: the name, the seed, four values and the symbol, and
+    perhaps by how many degrees the lot is turned; else None."""
     return USUAL.fullmatch(line) if len(line) <= LONGEST else None
 
 
@@ -21,6 +25,15 @@ def unusual(line: str) -> Optional[Match[str]]:
         value, at = value_at(words, at)
         values.append(value)
     return usual(" ".join(words[:3] + values + words[at:]))
+
+
+def plain(lot: Match[str]) -> str:
+    """The line as the program takes it, in the frame of the lot's angle."""
+    return lot.string[: lot.end(7)]
+
+
+def angle(lot: Match[str]) -> float:
+    return float(lot.group(8) or 0)
 
 
 def value_at(words: List[str], at: int) -> Tuple[str, int]:

@@ -84,12 +84,13 @@ def roots(lots, symbols):
     return [found[lot.call, lot.turns] for lot in lots], rules
 
 
-def script_of(rules, lots):
-    """The lines of the rules and of the lots."""
+def script_of(rules, lots, angles=()):
+    """The lines of the rules and of the lots; for a region each lot may have an angle by which it is turned."""
     symbols, added = roots(lots, rules.symbols)
+    turns = [f" turned {angle:.9g}" if angle else "" for angle in angles] or [""] * len(lots)
     lines = [
-        f"lot {lot.name} {lot.seed} {' '.join(lot.ground)} {symbol}  # {noted(lot)}"
-        for lot, symbol in zip(lots, symbols)
+        f"lot {lot.name} {lot.seed} {' '.join(lot.ground)} {symbol}{turn}  # {noted(lot)}"
+        for lot, symbol, turn in zip(lots, symbols, turns)
     ]
     return rules.with_rules(added) + lines
 

@@ -116,17 +116,17 @@ def check_lots(found, is_region):
             )
 
 
-def chosen(found, angle):
-    """The one group that a script is for."""
+def chosen(found, angle, is_region):
+    """The groups that a script is for: one, or all of a region."""
     if angle is not None:
         near = min(found, key=lambda group: min(abs(group.angle - angle), 90 - abs(group.angle - angle)))
         if abs(near.angle - angle) > 0.01:
             raise Refused(f"no parcel lies at {angle:g} degrees; the nearest are {len(near.lots)} at {near.angle:g}")
-        return near
-    if len(found) > 1:
+        return [near]
+    if len(found) > 1 and not is_region:
         angles = ", ".join(f"{group.angle:g} ({len(group.lots)})" for group in found[:6])
         raise Refused(
-            f"the parcels lie at {len(found)} angles, and a script has one: write the town by --town TOWN.obj, or the script of "
-            f"one by --angle. They are {angles}{', ..' * (len(found) > 6)} degrees; --tolerance takes near ones as one"
+            f"the parcels lie at {len(found)} angles, and a script has one: write the town by --town TOWN.obj, the script of one "
+            f"by --angle, or one for tools/districts by --region. They are {angles}{', ..' * (len(found) > 6)} degrees; --tolerance takes near ones as one"
         )
-    return found[0]
+    return found

@@ -4,7 +4,7 @@ from pathlib import Path
 from typing import Iterator
 
 MARK = b"# plan "
-TEXTS = ("town.obj", "model.obj", "town.faults", "town.bill", "counts")
+TEXTS = ("town.obj", "model.obj", "town.faults", "town.bill", "town.unseen", "counts")
 TILESET = "tiles/tileset.json"
 
 

@@ -12,19 +12,28 @@ from .strangers_text import told
 from .turned_town import write_town
 
 
-def script(word: Any, rules: Rules, group: Group, comment: str) -> bytes:
-    """The script of one group."""
-    turn = f"turned by {group.angle:g} degrees, so say --north {-group.angle:g} to tools/plan; " if group.angle else ""
-    head = f"# {len(group.lots)} lots of {told(os.path.basename(word.map))}, by tools/parcels; {turn}{comment}"
+def script(word: Any, rules: Rules, groups: List[Group], comment: str) -> bytes:
+    """The script of one group, or of a region of several, whose lots tell by how many degrees each is turned."""
+    lots, angles = [lot for group in groups for lot in group.lots], []
+    if len(groups) > 1:
+        angles = [group.angle for group in groups for _ in group.lots]
+    head = f"# {len(lots)} lots of {told(os.path.basename(word.map))}, by tools/parcels; {of_turns(groups)}{comment}"
     lines = [
         "version 2",
         head.encode("utf-8", "replace").decode("latin-1"),
         "quiet",
-        *script_of(rules, group.lots),
+        *script_of(rules, lots, angles),
         "bill",
         "print",
     ]
     return text_of(lines)
+
+
+def of_turns(groups: List[Group]) -> str:
+    if len(groups) > 1:
+        return f"at {len(groups)} angles, so only tools/districts takes it; "
+    (angle,) = (group.angle for group in groups)
+    return f"turned by {angle:g} degrees, so say --north {-angle:g} to tools/plan; " if angle else ""
 
 
 def town(word: Any, rules: Rules, found: List[Group], say: Callable[[str], None]) -> None:

@@ -5,12 +5,14 @@ from collections import namedtuple
 from .call import Refused
 from .files import write
 from .head import Head
+from .rectangle import turned
 
-FORM = 1  # of the file; a file of another form is refused
+FORM = 2  # of the file; a file of another form is refused
 FILE = "plan.json"
 
-# own and ring are places in the list of lots: a job derives both, and its own are taken; level is 0, or the coarser head's
-Job = namedtuple("Job", "name own ring square level")
+# own and ring are places in the list of lots: a job derives both, and its own are taken; the square is that of the town;
+# level is 0, or the coarser head's; the output is told in the frame that is turned by the angle, in degrees
+Job = namedtuple("Job", "name own ring square level angle")
 
 # how a region was cut: lots of a job at most, how far grounds are grown, rings of neighbours, words for the program, and
 # the errors of the coarser heads
@@ -19,8 +21,14 @@ Options = namedtuple("Options", "most reach rings words errors")
 
 def tile_name(job):
     """The name of a job's tile says all that it is made by: the output, how many of its lots are own ones, and its corner."""
-    x, z, _ = job.square
+    x, z = near_corner(job)
     return f"{job.name}_{len(job.own)}_{x}_{z}"
+
+
+def near_corner(job):
+    """A corner near the job's lots, in its own frame: that of its square, or where this one is turned to."""
+    x, z, _ = job.square
+    return tuple(map(round, turned((x, z), job.angle))) if job.angle else (x, z)
 
 
 class Plan:
@@ -44,6 +52,10 @@ class Plan:
     def asks(self):
         """The numbers of the rules that ask."""
         return self.heads[0].asks()
+
+    def is_turned(self):
+        """Whether its lots lie at more than one angle."""
+        return len({job.angle for job in self.jobs}) > 1
 
     def drawn(self):
         """The jobs that are of the town itself."""

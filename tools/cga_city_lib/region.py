@@ -5,7 +5,7 @@ from typing import Any, Callable, List, Tuple, Union
 
 from .call import Refused
 from .exact import over_one
-from .lot_lines import unusual, usual
+from .lot_lines import angle, plain, unusual, usual
 from .script import commands, is_open, is_version, lines_of
 
 Box = Tuple[int, ...]
@@ -43,6 +43,7 @@ class Region:
         self.found = list(map(usual, self.lines))
         self.city, self.dressed, self.counted = [], [], []
         self.names, self.lots, self.columns = {}, [], ([], [], [], [])
+        self.angles = []  # of each lot, in degrees; its numbers are told in the frame that is turned by them
         short, self.places = shortened(self.lines, lambda at: self.found[at] is not None)
         first, *others = commands(short) or [None]
         if first is None or not is_version(first.words):
@@ -89,17 +90,21 @@ class Region:
         found = [self.found[at] or unusual(self.lines[at]) for at in places]
         for at, lot in zip(places, found):
             if lot is None:
-                raise self.refused(at, "a lot is written `lot NAME SEED X Z WIDTH DEPTH SYMBOL`")
+                raise self.refused(
+                    at, "a lot is written `lot NAME SEED X Z WIDTH DEPTH SYMBOL`, perhaps with `turned DEGREES` behind"
+                )
             if self.names.setdefault(lot.group(1), at) != at:
                 raise self.refused(
                     at, f"the lot `{lot.group(1)}` stands here twice: keep the later line, at the place of the first"
                 )
-        self.lots += [lot.string for lot in found]
+        self.lots += map(plain, found)
+        self.angles += map(angle, found)
         for number, column in enumerate(self.columns):
             column += [lot.group(number + 3) for lot in found]
 
     def grounds(self, reach: str = "0") -> Tuple[int, List[Box]]:
-        """The grounds, with so much more on each side, as boxes over one denominator, which comes first."""
+        """The grounds, with so much more on each side, as boxes over one denominator, which comes first. Each is told in the
+        frame of its lot's angle."""
         try:
             one, (*columns, (reach,)) = over_one([*self.columns, [reach]])
         except ValueError:

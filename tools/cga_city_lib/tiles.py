@@ -7,12 +7,12 @@ from .checking import around
 from .exact import parted
 from .files import write
 from .joining import workers
-from .plan import tile_name
+from .plan import near_corner, tile_name
 from .printed import reading
 from .progress import counted
 from .quadtree import Quadtree
 from .tile_glb import ends_of, glb
-from .tileset import Tile, tileset, tree
+from .tileset import Frame, Tile, tileset, tree
 from .towns import first_objects
 
 SMALLEST = 10**6  # boxes are rounded outwards to so many parts of a unit
@@ -50,7 +50,7 @@ def write_some(folder, names):
 
 def drawn_box(folder, job):
     """The box of what a tile draws, or of the corner of its square where it draws nothing."""
-    x, z, _ = job.square
+    x, z = near_corner(job)
     path = folder / "tiles" / f"{tile_name(job)}.glb"
     try:
         low, high = ends_of(path.read_bytes()) or ((0, 0, 0), (0, 0, 0))
@@ -63,7 +63,8 @@ def tile_of(folder, plan, job, told):
     boxes = told.boxes[: len(job.own)]
     box = corners(around(boxes), told.one) if boxes else drawn_box(folder, job)
     units, one = parted(plan.options.errors[job.level - 1]) if job.level else (0, 1)
-    return Tile(job.square, box, units / one, f"{tile_name(job)}.glb")
+    x, z = near_corner(job)
+    return Tile(job.square, box, units / one, f"{tile_name(job)}.glb", Frame((x, 0, z), job.angle))
 
 
 def grouped(squares):

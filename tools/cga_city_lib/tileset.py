@@ -1,36 +1,48 @@
 """The tree of 3D Tiles 1.1 over the tiles of a region. There Z is up: what is (x, y, z) in the town is (x, -z, y)."""
 import math
+from collections import namedtuple
+
+from .rectangle import turned
+
+FINE = 10**6  # the box around a turned one is rounded outwards to so many parts of a unit
+
+# where a tile's numbers are told from: a corner, in the frame that is turned by the angle
+Frame = namedtuple("Frame", "origin angle")
+TOWN = Frame((0, 0, 0), 0)
 
 
 class Tile:
-    """A tile with its box in the town, least and greatest corner; without content it only holds others."""
+    """A tile with its box, least and greatest corner, in the frame that is turned by its angle; without content it only holds
+    others, in the frame of the town. A tile with content holds tiles of its own angle."""
 
-    def __init__(self, square, box, error=0.0, uri=None):
+    def __init__(self, square, box, error=0.0, uri=None, frame=TOWN):
         self.square, self.box, self.error, self.uri, self.children = square, box, error, uri, []
+        self.frame = frame
 
     def take(self, child):
         """Its box holds that of each child, and its error is no less."""
         self.children.append(child)
         self.error = max(self.error, child.error)
-        self.box = union(self.box, child.box) if self.box else child.box
-
-    def origin(self):
-        """The corner from which the content tells its places; without content that of the town."""
-        return (self.square[0], 0, self.square[1]) if self.uri else (0, 0, 0)
+        box = child.box if child.frame.angle == self.frame.angle else around(child.box, child.frame.angle)
+        self.box = union(self.box, box) if self.box else box
 
     def diagonal(self):
         return math.dist(*self.box)
 
-    def held(self, above=(0, 0, 0)):
-        """The tile as the file has it, inside of one that has this origin."""
-        origin = self.origin()
-        held = {"boundingVolume": {"box": volume(self.box, origin)}, "geometricError": self.error, "refine": "REPLACE"}
-        if origin != above:
-            held["transform"] = moved(*(one - other for one, other in zip(origin, above)))
+    def held(self, above=TOWN):
+        """The tile as the file has it, inside of one that has this frame."""
+        frame = self.frame
+        held = {
+            "boundingVolume": {"box": volume(self.box, frame.origin)},
+            "geometricError": self.error,
+            "refine": "REPLACE",
+        }
+        if frame != above:
+            held["transform"] = brought(frame, above)
         if self.uri:
             held["content"] = {"uri": self.uri}
         if self.children:
-            held["children"] = [child.held(origin) for child in self.children]
+            held["children"] = [child.held(frame) for child in self.children]
         return held
 
 
@@ -46,8 +58,24 @@ def volume(box, origin):
     return [x, -z, y, wide, 0, 0, 0, deep, 0, 0, 0, high]
 
 
-def moved(x, y, z):
-    return [1, 0, 0, 0, 0, 1, 0, 0, 0, 0, 1, 0, x, -z, y, 1]
+def around(box, angle):
+    """The box in the town around one that is turned."""
+    (x, low, z), (far_x, high, far_z) = box
+    ring = [turned(at, -angle) for at in ((x, z), (far_x, z), (far_x, far_z), (x, far_z))]
+    (west, north), (east, south) = (tuple(map(end, zip(*ring))) for end in (min, max))
+    return (
+        (math.floor(west * FINE) / FINE, low, math.floor(north * FINE) / FINE),
+        (math.ceil(east * FINE) / FINE, high, math.ceil(south * FINE) / FINE),
+    )
+
+
+def brought(frame, above):
+    """The matrix, column by column, from a frame to one of the same angle, or to that of the town."""
+    x, y, z = (one - other for one, other in zip(frame.origin, above.origin))
+    if frame.angle == above.angle:
+        return [1, 0, 0, 0, 0, 1, 0, 0, 0, 0, 1, 0, x, -z, y, 1]
+    (c, s), (x, z) = turned((1, 0), -frame.angle), turned((x, z), -frame.angle)
+    return [c, -s, 0, 0, s, c, 0, 0, 0, 0, 1, 0, x, -z, y, 1]
 
 
 def tree(tiles, grouped):

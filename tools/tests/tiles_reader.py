@@ -1,9 +1,11 @@
 """Reads 3D Tiles 1.1 and glTF 2.0 as their specifications say, field by field, and complains of what they don't allow."""
 import json
 import struct
+from itertools import product
 
 COMPONENTS = {"SCALAR": 1, "VEC3": 3}
 KINDS = {5126: "f", 5125: "I"}
+STILL = [1, 0, 0, 0, 0, 1, 0, 0, 0, 0, 1, 0, 0, 0, 0, 1]
 
 
 def demand(is_so, what):
@@ -72,7 +74,7 @@ def read_tileset(path):
     held = json.loads(path.read_text())
     demand(held["asset"]["version"] == "1.1" and is_number(held["geometricError"]), "the head of a tileset")
     demand(held["geometricError"] >= held["root"]["geometricError"], "the error of all is the greatest")
-    return list(read_tile(path.parent, held["root"], (0, 0, 0), 0))
+    return list(read_tile(path.parent, held["root"], STILL, 0))
 
 
 def read_tile(folder, tile, above, depth):
@@ -80,43 +82,53 @@ def read_tile(folder, tile, above, depth):
         is_number(tile["geometricError"]) and tile["geometricError"] >= 0 and tile["refine"] in ("ADD", "REPLACE"),
         "error and refine",
     )
-    here = tuple(one + other for one, other in zip(above, read_transform(tile)))
+    here = times(above, read_transform(tile))
     low, high = read_box(tile, here)
     if "content" in tile:
-        for triangle in (triangles := placed(read_glb((folder / tile["content"]["uri"]).read_bytes()), here)):
+        triangles = read_glb((folder / tile["content"]["uri"]).read_bytes())
+        own_low, own_high = read_box(tile, STILL)
+        for x, y, z in (point for triangle in triangles for point in triangle):
             demand(
-                all(low[axis] - 1e-5 <= point[axis] <= high[axis] + 1e-5 for point in triangle for axis in range(3)),
+                all(least - 1e-5 <= at <= most + 1e-5 for least, at, most in zip(own_low, (x, -z, y), own_high)),
                 "content within its box",
             )
-        yield depth, tile["geometricError"], triangles
+        yield depth, tile["geometricError"], placed(triangles, here)
     for child in tile.get("children", []):
         demand(child["geometricError"] <= tile["geometricError"], "the error of a child is no greater")
-        child_low, child_high = read_box(child, tuple(one + other for one, other in zip(here, read_transform(child))))
+        child_low, child_high = read_box(child, times(here, read_transform(child)))
         demand(
-            all(low[axis] - 1e-6 <= child_low[axis] and child_high[axis] <= high[axis] + 1e-6 for axis in range(3)),
+            all(low[axis] - 1e-5 <= child_low[axis] and child_high[axis] <= high[axis] + 1e-5 for axis in range(3)),
             "a child within its parent",
         )
         yield from read_tile(folder, child, here, depth + 1)
 
 
 def read_transform(tile):
-    matrix = tile.get("transform", [1, 0, 0, 0, 0, 1, 0, 0, 0, 0, 1, 0, 0, 0, 0, 1])
+    matrix = tile.get("transform", STILL)
     demand(len(matrix) == 16 and all(map(is_number, matrix)), "sixteen numbers, column by column")
-    demand(matrix[:12] == [1, 0, 0, 0, 0, 1, 0, 0, 0, 0, 1, 0] and matrix[15] == 1, "here only moves are taken")
-    return tuple(matrix[12:15])
+    demand(matrix[3::4] == [0, 0, 0, 1] and matrix[2:11:4] == [0, 0, 1], "here tiles are moved, and turned about Z")
+    demand(abs(matrix[0] ** 2 + matrix[1] ** 2 - 1) < 1e-9, "and not made larger")
+    return matrix
+
+
+def times(one, other):
+    return [sum(one[4 * k + row] * other[4 * column + k] for k in range(4)) for column in range(4) for row in range(4)]
+
+
+def seen(matrix, point):
+    return tuple(sum(matrix[4 * k + row] * part for k, part in enumerate((*point, 1))) for row in range(3))
 
 
 def read_box(tile, here):
     box = tile["boundingVolume"]["box"]
     demand(len(box) == 12 and all(map(is_number, box)), "twelve numbers")
-    halves = [sum(abs(box[3 + 3 * half + axis]) for half in range(3)) for axis in range(3)]
-    middle = [number + corner for number, corner in zip(box, here)]
-    return [at - half for at, half in zip(middle, halves)], [at + half for at, half in zip(middle, halves)]
+    corners = [
+        seen(here, [box[axis] + sum(side * box[3 * k + axis] for k, side in enumerate(sides, 1)) for axis in range(3)])
+        for sides in product((-1, 1), repeat=3)
+    ]
+    return [min(axis) for axis in zip(*corners)], [max(axis) for axis in zip(*corners)]
 
 
 def placed(triangles, here):
     """Y is up in glTF, and Z in tiles."""
-    return [
-        tuple(tuple(number + corner for number, corner in zip((x, -z, y), here)) for x, y, z in triangle)
-        for triangle in triangles
-    ]
+    return [tuple(seen(here, (x, -z, y)) for x, y, z in triangle) for triangle in triangles]
