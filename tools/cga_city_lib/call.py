@@ -1,6 +1,7 @@
 """How each tool is called: a wrong word ends it with its reason and status 2, input that can't be taken with a sentence and
 status 1, and neither with a trace of Python."""
 import argparse
+import errno
 import os
 import re
 import sys
@@ -10,6 +11,7 @@ from .guarded import INTERRUPTED, guard_if, is_on_guard, listen
 from .strangers_text import told
 from .version import VERSION
 
+MISSING = "the following arguments are required: "
 PLAIN = re.compile(r"-\d+|-\d*\.\d+")  # the numbers below 0 that argparse takes for no option
 
 
@@ -34,7 +36,16 @@ class Words(argparse.ArgumentParser):
     def __init__(self, **more):
         super().__init__(add_help=False, allow_abbrev=False, formatter_class=Narrow, **more)
 
+    def add_argument(self, *names, **more):
+        """A place has the name of the usage line, in capitals where no other is given."""
+        if not names[0].startswith("-"):
+            more.setdefault("metavar", names[0].upper())
+        return super().add_argument(*names, **more)
+
     def error(self, message):
+        names = message.partition(MISSING)[2]
+        if names:
+            message = f"{names.replace(', ', ' and ')} {'are' if ', ' in names else 'is'} missing"
         raise WrongWord(message)
 
 
@@ -61,11 +72,15 @@ def number_in(low, high, kind=float):
             number = None
         if number is None or not low <= number <= high:
             raise argparse.ArgumentTypeError(
-                f"`{told(word)}` isn't a{' whole' * (kind is int)} number from {low:,} to {high:,}"
+                f"`{told(word)}` isn't a{' whole' * (kind is int)} number from {grouped(low)} to {grouped(high)}"
             )
         return number
 
     return read
+
+
+def grouped(number):
+    return f"{int(number) if number == int(number) else number:,}"
 
 
 def call(main, words, text, refused=1):
@@ -88,7 +103,7 @@ def status_of(main, words, text, refused):
     try:
         status = end_of(main, words, text)
     except WrongWord as fault:
-        status = said(name, f"{fault}; {sys.argv[0]} --help tells the words", 2)
+        status = said(name, f"{fault}{usage_for(str(fault), text)}; {sys.argv[0]} --help tells the words", 2)
     except (Refused, ValueError) as fault:
         said(name, fault)
     except BrokenPipeError:
@@ -96,10 +111,25 @@ def status_of(main, words, text, refused):
         os.dup2(os.open(os.devnull, os.O_WRONLY), sys.stdout.fileno())
         status = 0
     except OSError as fault:
-        said(name, f"{fault.filename or 'output'}: {fault.strerror}")
+        said(name, f"{fault.filename or 'output'}: {reason_of(fault)}")
     except (MemoryError, RecursionError):
         said(name, "the input is too large or too deeply nested for this machine's memory: cut it into parts")
     return status
+
+
+def usage_for(fault, text):
+    """How the tool is called, where a word is missing or one too many."""
+    usage = re.search(r"^usage: (.*)", text, re.MULTILINE)
+    is_of_number = fault.endswith(" missing") or fault.startswith("unrecognized")
+    return f": {usage.group(1)}" if usage and is_of_number else ""
+
+
+def reason_of(fault):
+    """Why a file can't be read or written; a folder that isn't there is named."""
+    folder = os.path.dirname(os.fspath(fault.filename or ""))
+    if fault.errno == errno.ENOENT and folder and not os.path.isdir(folder):
+        return f"there is no folder {folder}"
+    return fault.strerror
 
 
 def end_of(main, words, text):

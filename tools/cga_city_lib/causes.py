@@ -24,7 +24,7 @@ CAUSES = {  # {0} and {1} are what is told with the cause: an id, a name, or an 
     "WrongArity": "rule {0} gives `{1}` another number of parameters than the first rule of `{1}`",
     "DoubleName": "the parameter `{1}` of rule {0} has the name of another one, or of an attribute",
     "BadProbability": "the probabilities of rule {0} don't add up to 1, or one is 0 or has more than six decimals",
-    "UnknownSymbol": "rule {0} makes a `{1}`, and no rule says what becomes of it",
+    "UnknownSymbol": "rule {0} makes a symbol `{1}`, and there is no rule for it",
     "PartsDiffer": "a Subdiv of rule {0} has another number of sizes than of bodies",
     "UnknownName": "`{1}` in rule {0} is neither a parameter nor an attribute",
     "OverBudget": "the town would have more than 100,000 shapes (400,000 in version 2), or a rule never ends",

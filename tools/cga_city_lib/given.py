@@ -45,7 +45,7 @@ def given(path: str) -> Given:
         data = file.read()
     kind = kind_of(data)
     if kind is None:
-        raise Refused(f"{path} {what_else(data)}: {CALL}")
+        raise Refused(f"{path} {what_else(data)}")
     return Given(path, data, kind == "script")
 
 
@@ -79,22 +79,22 @@ def first_line(data: bytes) -> str:
     return ""
 
 
-def what_else(data: bytes) -> str:
-    """A predicate that says what was found in a file that is neither."""
+def what_else(data: bytes, call: str = CALL) -> str:
+    """A predicate that says what was found in a file that is neither, and what to do."""
     mark = next((told for mark, told in MARKS.items() if data.startswith(mark)), None)
     line = first_line(data)
     if not data.strip():
-        return "is empty"
+        return f"is empty: {call}"
     if mark or b"\0" in data[:HEAD]:
-        return f"is {mark or 'a binary file'}"
+        return f"is {mark or 'a binary file'}: {call}"
     if is_cga(data):
         return "has rules of CityEngine's CGA, of which tools/port makes a script"
     if line[:1] in SIGNS:
-        return f"is {SIGNS[line[:1]]}"
+        return f"is {SIGNS[line[:1]]}: {call}"
     if RULE.match(line):
         return "has rules without a block: write a line `rules` before them, and a line `end` behind them"
     if not line and any(map(REPLY.match, data[:HEAD].decode("utf-8", "replace").split("\n"))):
-        return "has replies and no town: a script whose last line is `print` prints one"
+        return "has replies and no town: give the script itself, or end it by a line `print`"
     if not line:
-        return "has comments alone"
-    return f"is no script and no OBJ text: its first line is `{told(line)}`"
+        return f"has comments alone: {call}"
+    return f"is no script and no OBJ text, since its first line is `{told(line)}`: {call}"

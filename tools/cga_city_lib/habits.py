@@ -27,7 +27,7 @@ def attribute(found: "re.Match[str]") -> str:
     if value.startswith('"#'):
         return "an attribute is a number; a colour goes by symbol, in a JSON file for --colours"
     if value.startswith('"'):
-        return "an attribute is a number, and no text: write a symbol for each text"
+        return f"an attribute is a number, and no text: number the texts, and ask for one by {name} == 1"
     if value.startswith("case"):
         return "an attribute is one number: write a rule of a symbol with a parameter for each case"
     return f"an attribute is one number: write `{value}` where the rules use it"
@@ -46,14 +46,17 @@ HABITS: List[Tuple[str, Text]] = [
         "leave annotations out: a lot names its first symbol, and each attribute has a slider in tools/preview",
     ),
     (r"^\s*import\b.*", "there is no import: put the files together"),
-    (r"^\s*version\s*\".*", "`version 2` is the first line of all, and no other version is written"),
+    (
+        r"^\s*version\s*\".*",
+        "leave it out: `version 2`, as the first line of a script, is the only version that is written",
+    ),
     (
         r"\bi\s*\(\s*\"[^\"]*[./][^\"]*\"?",
         'write I("cube") by a symbol of its own; a mesh takes its place by `asset` and `dress`, or in an engine by tools/places',
     ),
     (
         within("shape[LUO]") + r"\s*(\{.*)?",
-        'cut it by two splits: Subdiv("Z", 1r, 6) { a | Subdiv("X", 6, 1r) { a | b } }',
+        'cut it by two splits, the front last: Subdiv("Z", 1r, 6) { Subdiv("X", 6, 1r) { shape | remainder } | shape }',
     ),
     (
         r"(\bNIL\s+)?\bprimitive(?P<kind>[A-Z]\w*)\s*(\([^()]*\)?)?",

@@ -67,7 +67,7 @@ class Call(unittest.TestCase):
 
     def test_wrong_words(self):
         for given, why in (
-            ([], "the following arguments are required: thing"),
+            ([], "THING is missing: tools/make THING"),
             (["x", "--what"], "unrecognized arguments: --what"),
             (["x", "--many", "3000"], "argument --many: `3000` isn't a whole number from 1 to 2,000"),
             (["x", "--man", "3"], "unrecognized arguments: --man 3"),

@@ -117,7 +117,7 @@ class Explained(unittest.TestCase):
                 (["a", "/0/4"], 1, "no shape stands at /0/4 in a: /0 has 1 child"),
                 (["a", "0"], 1, "0 is no path"),
                 (["a", "--depth", "x"], 2, "`x` isn't a whole number"),
-                ([], 2, "required: lot"),
+                ([], 2, "LOT is missing"),
             ):
                 with self.subTest(words):
                     found = called("explain", "--program", DEFINE, path, *words)

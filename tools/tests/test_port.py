@@ -255,7 +255,7 @@ class Files(unittest.TestCase):
                 (["raw.cga"], 1, "raw.cga isn't text in UTF-8"),
                 (["gone.cga"], 1, "gone.cga: No such file"),
                 (["none.cga", "none.cga"], 1, "has the rules themselves"),
-                ([], 2, "required: rules"),
+                ([], 2, "RULES is missing"),
                 (["none.cga", "--lot", "0", "3"], 2, "`0` isn't a length above 0"),
             ):
                 with self.subTest(words):

@@ -271,7 +271,7 @@ class Words(unittest.TestCase):
     def test_wrong_words_have_a_reason(self):
         for words, reason in (
             (["--port", "70000", "x"], "`70000` isn't a whole number from 0 to 65,535"),
-            ([], "required: script"),
+            ([], "SCRIPT is missing"),
             (["--what", "x"], "unrecognized arguments: --what"),
         ):
             status, _, said = called("preview", *words)
