@@ -2,13 +2,14 @@
 job derived: then the own lots of all jobs are, together, the town. Two jobs derived the same of a lot where its steps are
 the same, each with its answers: a step's shape and answers say all that comes of it."""
 import json
-from collections import Counter, defaultdict, namedtuple
+from collections import Counter, namedtuple
 
 from .apart import Sets, touching
 from .checking import across_jobs, over_all
 from .files import can_write, write
 from .printed import Printed, reading
 from .progress import counted
+from .steps import lot_steps, steps_by_lot
 
 LARGEST = 4  # times the rings of the cut: lots that need more have their jobs put together
 
@@ -41,20 +42,11 @@ class Traced:
         return made
 
     def made(self):
-        steps = defaultdict(list)
         head, *lines = self.printed.from_last(b"\n# trace ").partition(b"\n# stats ")[0].split(b"\n")
         if head != b"# trace %d" % len(lines):
             raise self.printed.broken("its steps aren't whole")
-        for line in lines:
-            steps[line.split(b" ", 3)[2]].append(line)
-        return [self.lot(steps[name.encode("latin-1")]) for name in self.names]
-
-    def lot(self, steps):
-        """Each shape but an instance has one step, which tells how many children it has, or its fault."""
-        from hashlib import sha256
-
-        shapes = 1 + sum(int(step) for step in (line.rsplit(b" ", 1)[1] for line in steps) if step.isdigit())
-        return [sha256(b"\n".join(sorted(steps))).hexdigest()[:32], shapes, shapes - len(steps)]
+        steps = steps_by_lot(lines)
+        return [lot_steps(steps[name.encode("latin-1")]) for name in self.names]
 
 
 def traced(folder, plan):

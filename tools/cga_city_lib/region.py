@@ -1,7 +1,7 @@
 """A script as a region: the lines that each job has, and the lots, of which each job has some."""
 from itertools import groupby
 from pathlib import Path
-from typing import Any, Callable, List, Tuple, Union
+from typing import Any, Callable, List, Sequence, Tuple, Union
 
 from .call import Refused
 from .exact import over_one
@@ -103,14 +103,16 @@ class Region:
             column += [lot.group(number + 3) for lot in found]
 
     def grounds(self, reach: str = "0") -> Tuple[int, List[Box]]:
-        """The grounds, with so much more on each side, as boxes over one denominator, which comes first. Each is told in the
-        frame of its lot's angle."""
-        try:
-            one, (*columns, (reach,)) = over_one([*self.columns, [reach]])
-        except ValueError:
-            raise Refused(
-                f"{self.path}: a lot's number divides by zero, or the reach is no number; tools/lint says which"
-            ) from None
-        return one, [
-            (x - reach, x + width + reach, z - reach, z + depth + reach) for x, z, width, depth in zip(*columns)
-        ]
+        return grounds_of(self.path, self.columns, reach)
+
+
+def grounds_of(path: Union[str, Path], columns: Sequence[List[str]], reach: str) -> Tuple[int, List[Box]]:
+    """The grounds, with so much more on each side, as boxes over one denominator, which comes first. Each is told in the
+    frame of its lot's angle."""
+    try:
+        one, (*whole, (more,)) = over_one([*columns, [reach]])
+    except ValueError:
+        raise Refused(
+            f"{path}: a lot's number divides by zero, or the reach is no number; tools/lint says which"
+        ) from None
+    return one, [(x - more, x + width + more, z - more, z + depth + more) for x, z, width, depth in zip(*whole)]
