@@ -1,55 +1,34 @@
 """The instances that are drawn, as floats that a page takes as they are: for each mesh a table with a slot for each instance.
 
-An instance is told by its line, `LOT SYMBOL SOLID X Y Z AXES W H D`; equal instances have one slot. Its floats are:
-place and symbol; sizes and axes; lot, the moment at which it came, which a page sets, and two that are free.
+An instance is told by its line, `LOT SYMBOL SOLID X Y Z AXES W H D`; equal instances have one slot.
 """
 import math
 from array import array
-from struct import Struct
-from typing import Callable, Dict, Generic, Iterable, List, Mapping, Tuple, TypeVar
+from typing import Dict, Iterable, Iterator, List, Mapping, Tuple
 
-FOUR = Struct("<4f")
-SIZE = 3 * FOUR.size  # bytes of an instance
-FREE = FOUR.pack(0, 0, 0, -1) + 2 * FOUR.pack(0, 0, 0, 0)  # a symbol below 0 says that nothing is there
-BEFORE = -9.0  # a moment that is over
+from .instance_floats import FLOATS, SIZE, SYMBOL, Reader, pieces
+
+FREE = array(
+    "f", [-1.0 if at == SYMBOL else 0.0 for at in range(FLOATS)]
+).tobytes()  # a symbol below 0: nothing is there
 MANY = 1000  # free slots that a table may have anyhow
-MOST_TEXTS = 200_000  # texts whose values are kept
 TABLES = 20  # bits of a place that name the table
 NUMBER = (1 << TABLES) - 1
 NEAR = 1000.0
-RIDGED = (b"gable", b"hip")
-
-Value = TypeVar("Value")
+SOME = 4096  # lines that are taken at once
 
 
-class Kept(Dict[bytes, Value], Generic[Value]):
-    """What a function makes of each text, kept for the next time."""
-
-    def __init__(self, of: Callable[[bytes], Value]) -> None:
-        super().__init__()
-        self.of = of
-
-    def __missing__(self, text: bytes) -> Value:
-        if len(self) > MOST_TEXTS:
-            self.clear()
-        self[text] = value = self.of(text)
-        return value
-
-
-def number_of(text: bytes) -> float:
-    """The value of a number as it is written: `n`, `n/d` or a decimal."""
-    top, _, bottom = text.partition(b"/")
-    return float(top) / float(bottom) if bottom else float(top)
-
-
-def form_of(text: bytes) -> Tuple[bytes, bytes]:
-    """The floats of `AXES W H D`, and which way a ridge goes. Axes are one number: for each of them where it points, from 0
-    to 5, and six times the next."""
-    axes, *sizes = text.split(b" ")
-    wide, high, deep = map(number_of, sizes)
-    ways = [2 * b"XYZ".index(axes[at + 1]) + (axes[at] == ord("-")) for at in (0, 2, 4)]
-    code = ways[0] + 6 * ways[1] + 36 * ways[2]
-    return FOUR.pack(wide, high, deep, code), b"_along" if wide >= deep else b"_across"
+def runs(slots: Iterable[int]) -> Iterator[Tuple[int, int]]:
+    """Slots in order as ranges of such that follow one another: the first, and the one behind the last."""
+    first = behind = -1
+    for slot in slots:
+        if slot != behind:
+            if behind > first:
+                yield first, behind
+            first = slot
+        behind = slot + 1
+    if behind > first:
+        yield first, behind
 
 
 class Table:
@@ -60,37 +39,49 @@ class Table:
         self.free: List[int] = []
         self.is_new = True  # a page has to get all of it
 
-    def put(self, floats: bytes) -> int:
-        """The place of an instance that comes."""
-        if self.free:
-            slot = self.free.pop()
-            self.data[SIZE * slot : SIZE * slot + SIZE] = floats
-        else:
-            slot = len(self.data) // SIZE
-            self.data += floats
-        self.changed.append(slot)
-        return slot << TABLES | self.number
+    def __len__(self) -> int:
+        return len(self.data) // SIZE
 
-    def drop(self, slot: int) -> None:
-        self.data[SIZE * slot : SIZE * slot + SIZE] = FREE
-        self.free.append(slot)
-        self.changed.append(slot)
+    def put(self, floats: bytes) -> List[int]:
+        """The places of the instances that come, in their order."""
+        left, total, at = max(0, len(self.free) - len(floats) // SIZE), len(self), 0
+        taken = sorted(self.free[left:])
+        del self.free[left:]
+        for first, behind in runs(taken):
+            self.data[SIZE * first : SIZE * behind] = floats[at : at + SIZE * (behind - first)]
+            at += SIZE * (behind - first)
+        self.data += floats[at:]
+        taken += range(total, len(self))
+        self.changed.extend(taken)
+        return [slot << TABLES | self.number for slot in taken]
+
+    def drop(self, slots: List[int]) -> None:
+        slots.sort()
+        for first, behind in runs(slots):
+            self.data[SIZE * first : SIZE * behind] = FREE * (behind - first)
+        self.free += slots
+        self.changed.extend(slots)
 
     def is_sparse(self) -> bool:
-        return len(self.free) > MANY and 2 * len(self.free) * SIZE > len(self.data)
+        return len(self.free) > MANY and 2 * len(self.free) > len(self)
 
     def clear(self) -> bytearray:
         """Takes all instances away; gives their floats."""
         was, self.data, self.free, self.changed, self.is_new = self.data, bytearray(), [], array("I"), True
         return was
 
+    def along(self, axis: int) -> Iterator[float]:
+        """The places of the instances along an axis."""
+        floats = array("f", bytes(self.data))
+        return (place for place, symbol in zip(floats[axis::FLOATS], floats[SYMBOL::FLOATS]) if symbol >= 0)
+
 
 class Instances:
     """What is drawn. `held` has the place of each line: its slot and its table; `more` how often a line is drawn beside once."""
 
     def __init__(self) -> None:
-        self.values, self.forms = Kept(number_of), Kept(form_of)
-        self.lots: Dict[bytes, bytes] = {}  # the floats of each lot, in the order of its number
+        self.reader = Reader()
+        self.lots: Dict[bytes, int] = {}  # the number of each lot and symbol, in their order
         self.symbols: Dict[bytes, int] = {}
         self.tables: Dict[bytes, Table] = {}
         self.numbered: List[Table] = []
@@ -102,9 +93,6 @@ class Instances:
     def __bool__(self) -> bool:
         return bool(self.held)
 
-    def count(self, line: bytes) -> int:
-        return self.more.get(line, 0) + 1 if line in self.held else 0
-
     def counts(self) -> Dict[bytes, int]:
         """How often each line is drawn."""
         return {**dict.fromkeys(self.held, 1), **{line: more + 1 for line, more in self.more.items()}}
@@ -112,89 +100,80 @@ class Instances:
     def take(self, changes: Mapping[bytes, int]) -> None:
         """Takes how much more often each line is drawn than before."""
         self.remove({line: -by for line, by in changes.items() if by < 0})
-        come = {line: by for line, by in changes.items() if by > 0}
-        if come and not self.offset:
-            self.offset = self.least(come)
-        places = self.add(come)
-        if come and self.is_far(places):
+        come = self.new({line: by for line, by in changes.items() if by > 0})
+        if come and self.add(come):
             self.set_offset()
         for table in self.numbered:
             if table.is_sparse():
                 self.pack(table)
 
-    def add(self, come: Mapping[bytes, int]) -> bytearray:
-        """Takes lines, each as often as is said; gives the places of what is new."""
-        values, forms, tables, pack = self.values, self.forms, self.tables, FOUR.pack
-        (from_x, from_y, from_z), places = self.offset or (0.0, 0.0, 0.0), bytearray()
+    def new(self, come: Mapping[bytes, int]) -> List[bytes]:
+        """The lines that weren't drawn yet; how much more often the others are drawn is noted."""
+        if len(come) == sum(come.values()) and self.held.keys().isdisjoint(come):
+            return list(come)
         for line, times in come.items():
-            if times > 1 or line in self.held:
-                self.more[line] = self.count(line) + times - 1
-                if line in self.held:
-                    continue
-            lot, symbol, solid, x, y, z, text = line.split(b" ", 6)
-            form, ridge = forms[text]
-            mesh = solid + ridge if solid in RIDGED else solid
-            table = tables.get(mesh) or self.table(mesh)
-            kind = self.symbols.setdefault(symbol, len(self.symbols))
-            place = pack(values[x] - from_x, values[y] - from_y, values[z] - from_z, kind)
-            places += place
-            self.held[line] = table.put(place + form + (self.lots.get(lot) or self.lot(lot)))
-        return places
+            more = self.more.get(line, 0) + times - (line not in self.held)
+            self.more.update({line: more} if more else {})
+        return [line for line in come if line not in self.held]
+
+    def add(self, lines: List[bytes]) -> bool:
+        """Takes lines that are new; whether the offset is far from what is drawn then."""
+        most = 0.0
+        for at in range(0, len(lines), SOME):
+            most = max(most, self.add_some(lines[at : at + SOME]))
+        return most > self.reach and self.is_far()
+
+    def add_some(self, lines: List[bytes]) -> float:
+        """Takes as many lines as are best taken at once; how far they are from the offset."""
+        columns = self.reader.columns(lines)
+        if not self.offset:  # whole numbers, so that what is subtracted has no rounding
+            self.offset = tuple(float(math.floor(min(axis))) for axis in columns.places)
+        for known, told in ((self.lots, columns.lots), (self.symbols, columns.symbols)):
+            for name in dict.fromkeys(told):
+                known.setdefault(name, len(known))
+        floats = columns.floats(self.offset, self.lots, self.symbols)
+        for mesh, numbers in columns.by_mesh().items():
+            table = self.tables[mesh] if mesh in self.tables else self.table(mesh)
+            self.held.update(zip([lines[at] for at in numbers], table.put(pieces(floats, numbers))))
+        return columns.farthest(self.offset)
 
     def remove(self, gone: Mapping[bytes, int]) -> None:
+        places: Dict[int, List[int]] = {table.number: [] for table in self.numbered}
         for line, times in gone.items():
             left = self.more.pop(line, 0) - times if self.more else -times
-            if left >= 0:
-                self.more.update({line: left} if left else {})
-            elif line in self.held:
+            if left > 0:
+                self.more[line] = left
+            elif left < 0 and line in self.held:
                 place = self.held.pop(line)
-                self.numbered[place & NUMBER].drop(place >> TABLES)
-
-    def lot(self, name: bytes) -> bytes:
-        self.lots[name] = floats = FOUR.pack(len(self.lots), BEFORE, 0, 0)
-        return floats
+                places[place & NUMBER].append(place >> TABLES)
+        for number, slots in places.items():
+            self.numbered[number].drop(slots)
 
     def table(self, mesh: bytes) -> Table:
         self.tables[mesh] = table = Table(len(self.numbered), mesh)
         self.numbered.append(table)
         return table
 
-    def least(self, lines: Iterable[bytes]) -> Tuple[float, ...]:
-        """Whole numbers below the least corner, so that what is subtracted has no rounding."""
-        places = zip(*([self.values[part] for part in line.split(b" ", 6)[3:6]] for line in lines))
-        return tuple(float(math.floor(min(axis))) for axis in places)
-
-    def is_far(self, places: bytearray) -> bool:
+    def is_far(self) -> bool:
         """A float of 32 bits holds seven digits, so what is drawn has to be near the offset."""
-        come = array("f", places)
-        if not come or max(max(map(abs, come[axis::4])) for axis in range(3)) <= self.reach:
-            return False
-        low, high = zip(*((min(axis), max(axis)) for axis in map(self.along, range(3))))
-        span, farthest = max(b - a for a, b in zip(low, high)), max(map(abs, low + high))
-        self.reach = max(NEAR, 2 * farthest)
-        return farthest > 4 * span + NEAR
-
-    def along(self, axis: int) -> List[float]:
-        """The places of the instances along an axis."""
-        floats = [array("f", table.data) for table in self.numbered]
-        step = SIZE // 4
-        return [place for all in floats for place, symbol in zip(all[axis::step], all[3::step]) if symbol >= 0]
+        axes = [[place for table in self.numbered for place in table.along(axis)] for axis in range(3)]
+        low, high = [min(axis) for axis in axes], [max(axis) for axis in axes]
+        span, most = max(b - a for a, b in zip(low, high)), max(map(abs, low + high))
+        self.reach = max(NEAR, 2 * most)
+        return most > 4 * span + NEAR
 
     def pack(self, table: Table) -> None:
         """Sets the instances of a table side by side again."""
-        was = table.clear()
-        for line, place in self.held.items():
-            if place & NUMBER == table.number:
-                at = SIZE * (place >> TABLES)
-                self.held[line] = table.put(was[at : at + SIZE])
+        was, own = table.clear(), [pair for pair in self.held.items() if pair[1] & NUMBER == table.number]
+        floats = b"".join([was[SIZE * at : SIZE * at + SIZE] for at in (place >> TABLES for _, place in own)])
+        self.held.update(zip([line for line, _ in own], table.put(floats)))
         table.changed = array("I")
 
     def set_offset(self) -> None:
         """Takes another offset, that is near what is drawn."""
-        counts, self.reach = self.counts(), NEAR
-        self.offset, self.held, self.more = self.least(counts), {}, {}
+        lines, self.offset, self.held, self.reach = list(self.held), (), {}, NEAR
         for table in self.numbered:
             table.clear()
-        self.add(counts)
+        self.add(lines)
         for table in self.numbered:
             table.changed = array("I")

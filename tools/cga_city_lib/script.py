@@ -56,7 +56,8 @@ def is_version(words):
     return len(words) == 2 and words[0] == "version" and re.fullmatch(r"0*2(\.0+)?", words[1]) is not None
 
 
-def commands(lines):
+def commands(lines, words_of=words_of):
+    """The commands of a script; whoever asks often may bring words that are kept."""
     found, is_second, at = [], None, 0
     while at < len(lines):
         first, line = at, lines[at]

@@ -9,9 +9,11 @@ import struct
 import threading
 from array import array
 from collections import Counter, deque, namedtuple
+from itertools import chain
 from typing import Any, Deque, Dict, Iterable, List, Mapping, Tuple
 
-from .instances_table import SIZE, Instances, Table
+from .instance_floats import SIZE
+from .instances_table import Instances, Table, runs
 
 SPARE = 10_000  # slots that the log keeps beside as many as are drawn
 
@@ -94,17 +96,17 @@ class Shown:
 
     def part(self, table: Table, known: int, log: List[Change]) -> Any:
         """What is told of a table, with its pieces, or nothing where nothing of it changed."""
-        total = len(table.data) // SIZE
+        total = len(table)
         told = {"mesh": table.mesh, "total": total, "whole": True, "slots": 0}
         if not known or self.renewed.get(table.number, 0) > known:
             return told, [bytes(table.data)]
-        slots = array("I", sorted({slot for change in log for slot in change.slots.get(table.number, ())}))
+        slots = array("I", sorted({*chain.from_iterable(change.slots.get(table.number, ()) for change in log)}))
         if not slots:
             return None
         told.update(slots=len(slots), whole=2 * len(slots) > total)
         if told["whole"]:
             return told, [slots.tobytes(), bytes(table.data)]
-        return told, [slots.tobytes(), *(table.data[SIZE * at : SIZE * at + SIZE] for at in slots)]
+        return told, [slots.tobytes(), *(table.data[SIZE * first : SIZE * behind] for first, behind in runs(slots))]
 
 
 def names(numbers: Dict[bytes, Any], first: Any) -> List[str]:

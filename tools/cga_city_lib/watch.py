@@ -7,8 +7,10 @@ from pathlib import Path
 from . import about, files, kept_views, panel_words
 from .call import Refused
 from .pipe import Ended
+from .replies import is_refused
 from .report import Report
-from .script import commands, lines_of, text_of
+from .script import lines_of, text_of
+from .script_words import ScriptWords
 
 GONE = "the file is gone; the town is that of its last save"
 EMPTY = "the file is empty, so there is no town"
@@ -25,6 +27,7 @@ class Watch:
         self.values, self.turns = {}, 0  # of the sliders beside the script's, and how often they were set
         self.away = None  # since when the file has been away
         self.took = 0  # thousandths of a second for the last change
+        self.words = ScriptWords()
 
     def turn(self, values):
         self.wanted = {**self.wanted, **values}
@@ -105,27 +108,33 @@ class Watch:
 
     def show(self, lines):
         self.saves += 1
-        found = commands(lines)
+        found = self.words.commands(lines)
         answers, faults = self.timed(self.town.show, lines, found)
-        report = Report(self.path, lines, found, answers)
-        said = report.lines_for(faults) if report.refused or faults else [] if found else [f"{self.path}: {EMPTY}"]
-        unread = [*kept_views.unread(lines), *panel_words.unread(lines)]
-        said = [*said, *(f"{self.path}:{number}: {text}" for number, text in unread)]
-        head = (
-            {}
-            if report.refused
-            else {**about.head_of(lines, found, answers), **kept_views.head_of(lines), **panel_words.head_of(lines)}
-        )
+        is_wrong = any(map(is_refused, answers))
         self.town.publish(
-            said="\n".join(said),
+            said="\n".join(self.said(lines, found, answers, faults)),
             is_busy=False,
-            is_stale=bool(report.refused),
+            is_stale=is_wrong,
             save=self.saves,
             stats=self.stats(),
             values=self.values,
             colours={**self.shown.value("colours", {}), **about.colours(lines, found)},
-            **head,
+            **({} if is_wrong else self.head(lines, found, answers)),
         )
+
+    def said(self, lines, found, answers, faults):
+        """What is wrong with a script."""
+        if faults or any(map(is_refused, answers)):
+            yield from Report(self.path, lines, found, answers).lines_for(faults)
+        elif not found:
+            yield f"{self.path}: {EMPTY}"
+        for number, text in [*kept_views.unread(lines), *panel_words.unread(lines)]:
+            yield f"{self.path}:{number}: {text}"
+
+    @staticmethod
+    def head(lines, found, answers):
+        """What a page is told of a script that nothing is refused in."""
+        return {**about.head_of(lines, found, answers), **kept_views.head_of(lines), **panel_words.head_of(lines)}
 
     def turned(self, values):
         refused, self.turns = self.timed(self.town.turn, values), self.turns + 1
