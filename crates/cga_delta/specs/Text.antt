@@ -1,5 +1,5 @@
 -- The text of what an edit changed.
-use Rattle.std.specs.Prelude.{ℕ, List, [], ◌∷◌, ◌++◌, codes, decimal, flat_map, length}
+use Rattle.std.specs.Prelude.{ℕ, List, [], ◌∷◌, ◌++◌, codes, decimal, flat_map, length, map}
 use Rattle.cga_fraction.specs.Texts.{exact_text_of}
 use Rattle.cga_frame.specs.Axes.{Frame, axis_of, direction}
 use Rattle.cga_frame.specs.declared.point.Point.{Point}
@@ -33,12 +33,29 @@ header gone come = codes "# changed " ++ decimal gone ++ codes " " ++ decimal co
 unfoldable pub told_text : Changes → List ℕ
 told_text c = header (length c.gone) (length c.come) ++ flat_map (line_text (codes "- ")) c.gone ++ flat_map (line_text (codes "+ ")) c.come
 
--- no text for what isn't there
-abbrev pub text_if : List Drawn → List Drawn → List ℕ → List ℕ
-text_if [] [] text = []
-text_if [] (d ∷ ds) text = text
-text_if (d ∷ ds) come text = text
+-- nothing where nothing went and nothing came
+abbrev pub if_any : {A : Type 0} → List Drawn → List Drawn → List A → List A
+if_any [] [] all = []
+if_any [] (d ∷ ds) all = all
+if_any (d ∷ ds) come all = all
 
 -- the same, and nothing where nothing changed
 unfoldable pub delta_text_of : Changes → List ℕ
-delta_text_of c = text_if c.gone c.come (told_text c)
+delta_text_of c = if_any c.gone c.come (told_text c)
+
+-- ---- lines, without their ends
+
+abbrev pub header_line : ℕ → ℕ → List ℕ
+header_line gone come = codes "# changed " ++ decimal gone ++ codes " " ++ decimal come
+
+abbrev pub signed_line : List ℕ → Drawn → List ℕ
+signed_line sign d = sign ++ drawn_text d
+
+-- the numbers, then what went, then what came
+abbrev pub told_lines : Changes → List (List ℕ)
+told_lines c =
+    header_line (length c.gone) (length c.come) ∷ (map (signed_line (codes "- ")) c.gone ++ map (signed_line (codes "+ ")) c.come)
+
+-- the same, and none where nothing changed
+unfoldable pub delta_lines : Changes → List (List ℕ)
+delta_lines c = if_any c.gone c.come (told_lines c)

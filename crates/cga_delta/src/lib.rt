@@ -7,7 +7,9 @@
 #![tactic(auto)]
 
 pub mod laws;
+mod names;
 mod text;
 mod words;
 
+pub use names::are_named;
 pub use text::delta_text;
