@@ -152,7 +152,8 @@ lines_split sign s (d ∷ ds) h rest =
     ∙ line_split sign s d (All-head IsNamed d ds h) (more ++ rest)
     ∙ ap (λ (l : List (List ℕ)). signed_line sign d ∷ l) (lines_split sign s ds (All-tail IsNamed d ds h) rest)
 
-header_split : (gone come : ℕ) (rest : List ℕ) → slice_split ends (header gone come ++ rest) ≡ header_line gone come ∷ slice_split ends rest
+header_split : (gone come : ℕ) (rest : List ℕ)
+    → slice_split ends (header gone come ++ rest) ≡ header_line gone come ∷ slice_split ends rest
 unfolding header
 header_split gone come rest =
     let word : List ℕ = codes "# changed " in
@@ -168,7 +169,8 @@ abbrev plus : List ℕ
 plus = codes "+ "
 
 -- the lines of a change, and behind the last nothing
-told_split : (c : Changes) → All IsNamed c.gone → All IsNamed c.come → slice_split ends (told_text c) ≡ told_lines c ++ [] ∷ []
+told_split : (c : Changes) → All IsNamed c.gone → All IsNamed c.come
+    → slice_split ends (told_text c) ≡ told_lines c ++ [] ∷ []
 unfolding told_text
 told_split c h k =
     let first = header (length c.gone) (length c.come) in

@@ -41,14 +41,16 @@ AreNamed c = All IsNamed c.gone × All IsNamed c.come
 
 -- cut at its line feeds, the text of such a change is its lines, and nothing stands behind the last
 abbrev pub TextHasLines : Type 0
-TextHasLines = (c : Changes) → AreNamed c → slice_split (λ byte. byte == 10) (delta_text_of c) ≡ delta_lines c ++ [] ∷ []
+TextHasLines =
+    (c : Changes) → AreNamed c → slice_split (λ byte. byte == 10) (delta_text_of c) ≡ delta_lines c ++ [] ∷ []
 
 -- ---- readers
 
 -- what went was there, and what was there with what came is what is there then with what went, each as often
 pub record LeadsTo (old new : List Drawn) (c : Changes) : Type 0 where
   pub there : (test : Drawn → Bool) → count_by test c.gone ≤ count_by test old
-  pub balance : (test : Drawn → Bool) → count_by test old + count_by test c.come ≡ count_by test new + count_by test c.gone
+  pub balance : (test : Drawn → Bool)
+      → count_by test old + count_by test c.come ≡ count_by test new + count_by test c.gone
 
 -- the reader has each line as often as there are instances with it
 abbrev pub Has : Having → List Drawn → Type 0
@@ -69,5 +71,6 @@ pub record RowsAreRead : Type 0 where
   -- of two equal lines one goes
   pub twice : IsSomeAnd (read_lines (codes "+ a" ∷ codes "+ a" ∷ codes "- a" ∷ []) nothing) (λ now. now (codes "a") ≡ 1)
   -- a line may go and come in one change, and the first line says nothing of what is drawn
-  pub again : IsSomeAnd (read_lines (codes "# changed 1 2" ∷ codes "- a" ∷ codes "+ b" ∷ codes "+ a" ∷ []) (with_one (codes "a") nothing)) (λ now.
-      (now (codes "a") ≡ 1) × (now (codes "b") ≡ 1) × (now (codes "c") ≡ 0))
+  pub again : IsSomeAnd
+      (read_lines (codes "# changed 1 2" ∷ codes "- a" ∷ codes "+ b" ∷ codes "+ a" ∷ []) (with_one (codes "a") nothing))
+      (λ now. (now (codes "a") ≡ 1) × (now (codes "b") ≡ 1) × (now (codes "c") ≡ 0))
