@@ -12,27 +12,34 @@ from .region import Region
 
 Pair = Tuple[int, int]  # two lots by their places
 
-# places of lots: those that the job is for, and the neighbours that it derives with them; all lie at the angle
-Share = namedtuple("Share", "own ring square angle")
+# places of lots: those that the job is for, and the neighbours that it derives with them; all lie at the angle, and the corner
+# is the least of the own ones in its frame
+Share = namedtuple("Share", "own ring square angle corner")
 
 
 def by_place(region: Region, groups: List[List[int]], most: int) -> Iterator[Share]:
     """Groups of lots in squares of at most so many lots, or of one group, each with its places in the script's order. Lots of
     a group lie at one angle, and those of a square are apart by it."""
     one, boxes = region.grounds()
-    points = [corner(one, [boxes[at] for at in group], region.angles[group[0]]) for group in groups]
+    points = [in_town(least(one, [boxes[at] for at in group]), region.angles[group[0]]) for group in groups]
     for square, items in Quadtree(points, list(map(len, groups)), most).leaves():
         for angle, some in by_angle(items, [region.angles[groups[item][0]] for item in items]):
-            yield Share(sorted(at for item in some for at in groups[item]), [], square, angle)
+            own = sorted(at for item in some for at in groups[item])
+            yield Share(own, [], square, angle, least(one, [boxes[at] for at in own]))
 
 
-def corner(one: int, boxes: Sequence[Any], angle: float) -> Pair:
-    """The least corner of a group, whole, as it lies in the town."""
+def least(one: int, boxes: Sequence[Any]) -> Pair:
+    """The least corner of some lots, whole."""
     x, z = (min(box[at] for box in boxes) for at in (0, 2))
+    return x // one, z // one
+
+
+def in_town(corner: Pair, angle: float) -> Pair:
+    """Where a corner of the frame of that angle lies in the town, whole."""
     if not angle:
-        return x // one, z // one
-    far_x, far_z = turned((x / one, z / one), -angle)
-    return math.floor(far_x), math.floor(far_z)
+        return corner
+    x, z = map(math.floor, turned(corner, -angle))
+    return x, z
 
 
 def by_angle(items: Sequence[Any], angles: Sequence[float]) -> List[Tuple[float, List[Any]]]:
@@ -123,4 +130,6 @@ def coarser(shares: Sequence[Share], most: int) -> Iterator[Share]:
         squares = [square, *(tuple(shares[item].square) for item in items)]
         largest = max(squares, key=lambda found: found[2])
         for angle, some in by_angle(items, [shares[item].angle for item in items]):
-            yield Share(sorted(at for item in some for at in shares[item].own), [], largest, angle)
+            own = sorted(at for item in some for at in shares[item].own)
+            x, z = (min(column) for column in zip(*(shares[item].corner for item in some)))
+            yield Share(own, [], largest, angle, (x, z))

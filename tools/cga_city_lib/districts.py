@@ -10,6 +10,7 @@ from .exact import parted
 from .files import alone, can_write, write
 from .head import head_of
 from .jobs import Cut, Program, cut_again, leftovers, tiles_to_make, todo
+from .map_facts import MapFacts
 from .of_plan import line_of, of_others, take_others_away
 from .plan import Options, read_plan
 from .program import MOST_LOTS, is_proved, ready
@@ -41,9 +42,11 @@ def cut(words):
         words.lots, words.reach, words.rings if asks else 0, words.decimals, [error for _, error in words.coarser]
     )
     program = Program(chosen_program(words.program, asks), words.decimals)
+    facts = MapFacts(words.ground)
+    facts.demand(words.ground, list(region.names))
     words.folder.mkdir(parents=True, exist_ok=True)
     with alone(words.folder):
-        plan, number = Cut(words.folder, program, region, heads, options).make()
+        plan, number = Cut(words.folder, program, region, heads, options, facts).make()
         left = len(todo(words.folder, plan))
     print(f"{words.folder}: {len(plan.lots)} lots in {len(plan.drawn())} jobs, {left} to run; {kind(asks, number)}")
 
@@ -219,6 +222,7 @@ def add_cut(known):
     known.add_argument("--decimals", type=decimals, default=[])
     known.add_argument("--coarser", nargs=2, action="append", default=[])
     known.add_argument("--program")
+    known.add_argument("--ground", type=Path)
 
 
 def add_check(known):

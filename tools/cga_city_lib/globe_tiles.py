@@ -1,6 +1,5 @@
 """A town of parcels as 3D Tiles that stand on the globe: tiles of near lots, and the ground as a tile of its own."""
 import json
-import math
 from pathlib import Path
 from typing import Any, Dict, Iterator, List, Sequence, Tuple
 
@@ -10,10 +9,10 @@ from .drawing import boxes_of
 from .files import write
 from .globe import Matrix, globe_of, place_told, standing
 from .ground_file import Ground
-from .ground_solids import solids_of
 from .instances import Lots, Reals, box_of
+from .leaf_tiles import ground_leaf, leaf, outer
 from .lot_tile import Corner, Face, Table, lot_table, lot_tile
-from .tileset import Frame, Tile
+from .tileset import Tile
 
 MOST_LOTS = 100  # of a tile
 FINE = 1000  # boxes are rounded outwards to so many parts of a unit
@@ -27,12 +26,6 @@ def split(lots: Sequence[str], middles: Dict[str, Tuple[float, float]]) -> Itera
     yield rising[len(rising) // 2 :]
 
 
-def outer(low: Sequence[float], high: Sequence[float]) -> Tuple[Corner, Corner]:
-    least = tuple(math.floor(part * FINE) / FINE for part in low)
-    most = tuple(math.ceil(part * FINE) / FINE for part in high)
-    return least, most  # type: ignore[return-value]
-
-
 class Tiles:
     """The tree of tiles over a town, and the bytes of each file."""
 
@@ -43,7 +36,7 @@ class Tiles:
 
     def root(self) -> Tile:
         top = Tile((0, 0, 0), None)
-        for tile in (self.ground_tile(), self.tile(list(self.middles))):
+        for tile in (self.kept(ground_leaf("ground.glb", self.ground)), self.tile(list(self.middles))):
             top.take(tile)
         top.error = max(top.error, top.diagonal())
         return top
@@ -56,7 +49,8 @@ class Tiles:
             found.error = max(found.error, found.diagonal())
             return found
         low, high = box_of({lot: self.lots[lot] for lot in some})
-        return self.leaf(f"lots_{len(self.files)}.glb", outer(low, high), self.faces(some), self.table(some))
+        name = f"lots_{len(self.files)}.glb"
+        return self.kept(leaf(name, outer(low, high), self.faces(some), self.table(some)))
 
     def table(self, some: Sequence[str]) -> Table:
         plots = [(lot, self.ground.by_lot.get(lot)) for lot in some]
@@ -65,25 +59,10 @@ class Tiles:
     def faces(self, some: Sequence[str]) -> List[Tuple[int, str, List[Corner]]]:
         return [(at, *face) for at, lot in enumerate(some) for face in faces_of(self.lots[lot], self.reals)]
 
-    def ground_tile(self) -> Tile:
-        faces = [
-            (0, symbol, [corners[at] for at in face])
-            for symbol, corners, places in solids_of(self.ground)
-            for face in places
-        ]
-        ends = list(zip(*(corner for *_, corners in faces for corner in corners)))
-        box = outer([min(part) for part in ends], [max(part) for part in ends])
-        return self.leaf("ground.glb", box, faces, lot_table([("ground", "ground", {})]))
-
-    def leaf(
-        self, name: str, box: Tuple[Corner, Corner], faces: Sequence[Tuple[int, str, List[Corner]]], table: Table
-    ) -> Tile:
-        square = (math.floor(box[0][0]), math.floor(box[0][2]), 0)
-        symbols = {symbol: number for number, symbol in enumerate(dict.fromkeys(symbol for _, symbol, _ in faces))}
-        told = [Face(lot, symbols[symbol], corners) for lot, symbol, corners in faces]
-        tables = (table, Table("symbol", {"symbol": list(symbols)}))
-        self.files[name] = lot_tile(told, tables, (float(square[0]), 0.0, float(square[1])), {})
-        return Tile(square, box, 0.0, name, Frame((square[0], 0, square[1]), 0))
+    def kept(self, made: Tuple[Tile, bytes]) -> Tile:
+        tile, data = made
+        self.files[tile.uri] = data
+        return tile
 
 
 def times(one: Matrix, other: Matrix) -> Matrix:

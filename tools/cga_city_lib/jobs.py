@@ -9,7 +9,8 @@ from .engines import engines
 from .files import write
 from .findings import Findings, Lots
 from .of_plan import take_others_away
-from .plan import Job, Plan, tile_name
+from .map_facts import kept_facts, unused
+from .plan import Job, Plan
 from .printed import PROGRAM
 from .progress import counted
 from .region import Region
@@ -70,8 +71,9 @@ def asked(region, has_rings):
 class Cut:
     """A region with all that its jobs come from."""
 
-    def __init__(self, folder, program, region, heads, options):
+    def __init__(self, folder, program, region, heads, options, facts):
         self.folder, self.program, self.region, self.heads, self.options = folder, program, region, heads, options
+        self.facts, self.names = facts, list(region.names)
         self.asks = heads[0].asks()
 
     def shares(self):
@@ -101,7 +103,8 @@ class Cut:
             script = self.heads[level].script(lots, listed)
             name = self.program.job(script)
             write(self.folder / "jobs" / f"{name}.cga", script)
-            yield Job(name, share.own, share.ring, share.square, level, share.angle)
+            facts = self.facts.write_for(self.folder, [self.names[at] for at in share.own])
+            yield Job(name, share.own, share.ring, share.square, level, share.angle, share.corner, facts)
 
     def make(self):
         """Gives the plan and the number of districts. Files that are as they are to be are left alone."""
@@ -109,8 +112,9 @@ class Cut:
         number, shares = self.shares()
         listed = asked(self.region, bool(self.asks and self.options.rings))
         jobs = list(self.levels(shares, listed))
-        plan = Plan(self.options, self.program.name, self.heads, listed, list(self.region.names), jobs)
+        plan = Plan(self.options, self.program.name, self.heads, listed, self.names, jobs, self.facts.name)
         self.program.save(self.folder)
+        self.facts.save(self.folder)
         write(self.folder / SCRIPT, self.region.data)
         for name, text in engines(self.program.name, self.options.words, jobs):
             write(self.folder / name, os.fsencode(text))
@@ -122,7 +126,7 @@ class Cut:
 def cut_again(folder, plan):
     """Cuts what was cut, by what is found by now."""
     program = Program(str(folder.absolute() / plan.program), plan.options.words)
-    return Cut(folder, program, Region(folder / SCRIPT), plan.heads, plan.options).make()[0]
+    return Cut(folder, program, Region(folder / SCRIPT), plan.heads, plan.options, kept_facts(folder)).make()[0]
 
 
 def todo(folder, plan):
@@ -133,8 +137,7 @@ def todo(folder, plan):
 
 def tiles_to_make(folder, plan):
     """The names of the tiles that aren't there."""
-    names = dict.fromkeys(map(tile_name, plan.jobs))
-    return [name for name in names if not (folder / "tiles" / f"{name}.glb").exists()]
+    return [name for name in plan.tiles() if not (folder / "tiles" / f"{name}.glb").exists()]
 
 
 def leftovers(folder, plan, refused):
@@ -146,6 +149,7 @@ def leftovers(folder, plan, refused):
             yield path
     yield from (path for path in folder.glob(f"{PROGRAM}*") if path.name != plan.program)
     yield from [*folder.glob("todo-*"), *folder.glob("logs/*")]
-    tiles = set(map(tile_name, plan.jobs))
+    tiles = {*plan.tiles(), f"ground_{plan.ground}"}
     yield from (path for path in folder.glob("tiles/*.glb") if path.stem not in tiles)
+    yield from unused(folder, {job.facts for job in plan.jobs})
     yield from (path for path in [*folder.glob("*.*.*"), *folder.glob("tiles/*.*.*")] if path.suffix in HALF_WRITTEN)

@@ -8,7 +8,7 @@ from .colours import colour_of
 from .eye import normal
 from .glb import INDICES, VERTICES, Glb, short
 from .materials import linear
-from .parcel_list import shown
+from .property_text import shown
 
 FEATURES, METADATA = "EXT_mesh_features", "EXT_structural_metadata"
 Corner = Tuple[float, float, float]
@@ -28,14 +28,13 @@ class Mesh:
         self.lots, self.symbols, self.triangles = array("f"), array("f"), array("I")
 
     def add(self, face: Face, origin: Corner) -> None:
-        first, up = len(self.lots), normal(*face.corners[:3])
-        for corner in face.corners:
-            self.places.extend(part - start for part, start in zip(corner, origin))
-            self.normals.extend(up)
-            self.lots.append(face.lot)
-            self.symbols.append(face.symbol)
-        for k in range(1, len(face.corners) - 1):
-            self.triangles.extend((first, first + k, first + k + 1))
+        first, number, (x, y, z) = len(self.lots), len(face.corners), origin
+        self.places.extend([part for a, b, c in face.corners for part in (a - x, b - y, c - z)])
+        self.normals.extend(normal(*face.corners[:3]) * number)
+        self.lots.extend([face.lot] * number)
+        self.symbols.extend([face.symbol] * number)
+        for k in range(first + 1, first + number - 1):
+            self.triangles.extend((first, k, k + 1))
 
     def primitive(self, made: Glb, colour: Tuple[int, int, int], counts: Sequence[int]) -> Dict[str, Any]:
         ids = [{"featureCount": count, "attribute": at, "propertyTable": at} for at, count in enumerate(counts)]
@@ -121,6 +120,8 @@ def lot_tile(faces: Sequence[Face], tables: Sequence[Table], origin: Corner, ext
     made, meshes, symbols = Glb(), {}, tables[1].columns["symbol"]
     for face in faces:
         meshes.setdefault(colour_of(symbols[face.symbol]), Mesh()).add(face, origin)
+    if not meshes:
+        return bytes(made.file([]))
     counts = [table.count() for table in tables]
     primitives = [mesh.primitive(made, colour, counts) for colour, mesh in meshes.items()]
     told = [table.told(made) for table in tables]

@@ -6,6 +6,7 @@ from typing import Any, Dict, Iterator, List, TextIO, Tuple
 from .lots_found import Found
 from .numerals import numeral
 from .parcels import Group
+from .property_text import shown
 from .rectangle import area, room
 from .strangers_text import cell, told
 
@@ -13,16 +14,6 @@ COLUMNS = ["lot", "feature", "name", "root", "angle", "area", "rectangle", "limi
 OVERLAP = "overlap"
 SKIPPED = "skipped"
 Row = Tuple[int, int, List[Any], Dict[str, Any]]
-
-
-def shown(value: Any) -> str:
-    """A property in a cell: nothing for none, true and false by their words, a list or an object by its kind."""
-    if value is None:
-        return ""
-    if isinstance(value, (list, dict)):
-        return "(list)" if isinstance(value, list) else "(object)"
-    text = str(value).lower() if isinstance(value, bool) else str(value)
-    return text if numeral(value) else cell(told(text))
 
 
 def parcel_rows(group: Group) -> Iterator[Row]:

@@ -5,14 +5,14 @@ from collections import namedtuple
 from .call import Refused
 from .files import write
 from .head import Head
-from .rectangle import turned
 
 FORM = 2  # of the file; a file of another form is refused
 FILE = "plan.json"
 
 # own and ring are places in the list of lots: a job derives both, and its own are taken; the square is that of the town;
 # level is 0, or the coarser head's; the output is told in the frame that is turned by the angle, in degrees
-Job = namedtuple("Job", "name own ring square level angle")
+# the corner is the least of its lots there, in whole numbers; facts is the name of what a map says of its lots, or none
+Job = namedtuple("Job", "name own ring square level angle corner facts")
 
 # how a region was cut: lots of a job at most, how far grounds are grown, rings of neighbours, words for the program, and
 # the errors of the coarser heads
@@ -20,21 +20,21 @@ Options = namedtuple("Options", "most reach rings words errors")
 
 
 def tile_name(job):
-    """The name of a job's tile says all that it is made by: the output, how many of its lots are own ones, and its corner."""
-    x, z = near_corner(job)
-    return f"{job.name}_{len(job.own)}_{x}_{z}"
-
-
-def near_corner(job):
-    """A corner near the job's lots, in its own frame: that of its square, or where this one is turned to."""
-    x, z, _ = job.square
-    return tuple(map(round, turned((x, z), job.angle))) if job.angle else (x, z)
+    """The name of a job's tile says all that it is made by: the output, how many of its lots are own ones, its corner, and
+    what a map says of them."""
+    x, z = job.corner
+    return f"{job.name}_{len(job.own)}_{x}_{z}" + f"_{job.facts}" * bool(job.facts)
 
 
 class Plan:
-    def __init__(self, options, program, heads, asked, lots, jobs):
+    def __init__(self, options, program, heads, asked, lots, jobs, ground):
         self.options, self.program, self.heads = options, program, heads
         self.asked, self.lots, self.jobs = asked, lots, jobs
+        self.ground = ground  # the name of the map's ground, or none
+
+    def tiles(self):
+        """The names of its tiles."""
+        return list(dict.fromkeys(map(tile_name, self.jobs)))
 
     def data(self):
         """The bytes of its file."""

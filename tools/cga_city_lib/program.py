@@ -77,11 +77,17 @@ def asking(program):
     return ask
 
 
-def run(program, script):
-    """The status of a run of the script, and its replies' lines."""
+def output(program, script):
+    """The status of a run of the script, and the bytes of its replies."""
     import subprocess
 
     from .sources import frugal
 
     done = subprocess.run([ready(program)], input=script, stdout=subprocess.PIPE, env=frugal())
-    return done.returncode, done.stdout.decode("latin-1").split("\n")[:-1]
+    return done.returncode, done.stdout
+
+
+def run(program, script):
+    """The status of a run of the script, and its replies' lines."""
+    status, out = output(program, script)
+    return status, out.decode("latin-1").split("\n")[:-1]

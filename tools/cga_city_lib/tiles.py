@@ -7,7 +7,8 @@ from .checking import around
 from .exact import parted
 from .files import write
 from .joining import workers
-from .plan import near_corner, tile_name
+from .map_facts import kept_facts, read_facts
+from .plan import tile_name
 from .printed import reading
 from .progress import counted
 from .quadtree import Quadtree
@@ -30,10 +31,11 @@ def write_glb(given):
     folder, name = given
     path = folder / "tiles" / f"{name}.glb"
     if not path.exists():
-        job, own, x, z = name.split("_")
+        job, own, x, z, *facts = name.split("_")
         source = folder / "jobs" / f"{job}.out"
+        known = read_facts(folder, facts[0]) if facts else {}
         with reading(source):
-            write(path, glb(first_objects(source, int(own)), (int(x), 0, int(z))))
+            write(path, glb(first_objects(source, int(own)), (int(x), 0, int(z)), known))
 
 
 def write_some(folder, names):
@@ -50,7 +52,7 @@ def write_some(folder, names):
 
 def drawn_box(folder, job):
     """The box of what a tile draws, or of the corner of its square where it draws nothing."""
-    x, z = near_corner(job)
+    x, z = job.corner
     path = folder / "tiles" / f"{tile_name(job)}.glb"
     try:
         low, high = ends_of(path.read_bytes()) or ((0, 0, 0), (0, 0, 0))
@@ -63,7 +65,7 @@ def tile_of(folder, plan, job, told):
     boxes = told.boxes[: len(job.own)]
     box = corners(around(boxes), told.one) if boxes else drawn_box(folder, job)
     units, one = parted(plan.options.errors[job.level - 1]) if job.level else (0, 1)
-    x, z = near_corner(job)
+    x, z = job.corner
     return Tile(job.square, box, units / one, f"{tile_name(job)}.glb", Frame((x, 0, z), job.angle))
 
 
@@ -93,14 +95,29 @@ def levels(folder, plan, told):
     return tiles
 
 
+def on_ground(folder, plan, town):
+    """The town's tile with that of the map's ground beside it, where there is one."""
+    if not plan.ground:
+        return town
+    from .leaf_tiles import ground_leaf  # it takes long to load, and most regions have no map
+
+    tile, data = ground_leaf(f"ground_{plan.ground}.glb", kept_facts(folder).ground)
+    write(folder / "tiles" / tile.uri, data)
+    top = Tile((0, 0, 0), None)
+    for child in (tile, town):
+        top.take(child)
+    top.error = max(top.error, top.diagonal())
+    return top
+
+
 def write_tiles(folder, plan, told, number):
     """Makes the tiles that aren't there, and the tree over all; gives its path."""
     (folder / "tiles").mkdir(exist_ok=True)
-    given = [(folder, name) for name in dict.fromkeys(map(tile_name, plan.jobs))]
+    given = [(folder, name) for name in plan.tiles()]
     with workers(number) as pool:
         for _ in counted(pool(write_glb, given), "tiles made", len(given)):
             pass
     path = folder / "tiles" / "tileset.json"
-    root = tree(levels(folder, plan, told), grouped)
+    root = on_ground(folder, plan, tree(levels(folder, plan, told), grouped))
     write(path, json.dumps(tileset(root, plan.digest()), separators=(",", ":")).encode())
     return path

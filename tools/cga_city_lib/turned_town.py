@@ -1,98 +1,105 @@
-"""A town of groups that are turned: the program derives each by itself, and what it prints is turned back and joined."""
-import subprocess
-import threading
+"""A town of groups that are turned: the program derives each by itself, several at once, and what it prints is turned back
+and joined."""
+import os
+from typing import Any, Iterator, List, NamedTuple, Sequence, TextIO, Tuple
 
 from .call import Refused
+from .joining import workers
 from .lot_list import script_of
+from .parcels import Group
+from .printed import OBJ
+from .program import output, ready
 from .progress import counted
-from .rectangle import turned
 from .replies import is_refused, replies
+from .rules_file import Rules
 from .script import commands, text_of
+from .towns import moved
+from .turned_text import turned_back
 
 HELP = {
     "OverBudget": "a run takes 400,000 shapes: cut the map into parts of fewer parcels",
     "BadLot": "the lot is too large or too far away",
 }
+FEW = 100  # lots of a run, at least: each costs a start of the program
+Report = List[str]
 
 
-class Run:
-    """One run of the program, in which each group begins with an empty town."""
+class Batch(NamedTuple):
+    """The groups of one run, in which each begins with an empty town."""
 
-    def __init__(self, program, rules, groups, reports):
-        last = [*reports, "model" if rules.is_dressed else "print"]
-        self.parts = [["city", "end", *script_of(rules, group.lots), *last] for group in groups]
-        self.number = len(last)
-        self.groups, self.rules = groups, rules
-        self.process = subprocess.Popen([program], stdin=subprocess.PIPE, stdout=subprocess.PIPE)
-        threading.Thread(target=self.feed, daemon=True).start()
-        self.replies = replies(line.decode("latin-1").rstrip("\n") for line in self.process.stdout)
+    program: str
+    rules: Rules
+    groups: Sequence[Group]
+    reports: Sequence[str]
 
-    def feed(self):
-        try:
-            self.process.stdin.write(text_of(["version 2", *(line for part in self.parts for line in part)]))
-            self.process.stdin.close()
-        except OSError:
-            pass  # it has ended, which its replies show
+    def last(self) -> List[str]:
+        return [*self.reports, "model" if self.rules.is_dressed else "print"]
 
-    def reply(self):
-        reply = next(self.replies, None)
-        if reply is None:
-            raise Refused(f"no answer: the program ended with status {self.process.wait()}")
-        return reply
+    def part(self, group: Group) -> List[str]:
+        return ["city", "end", *script_of(self.rules, group.lots), *self.last()]
 
-    def towns(self):
-        """Of each group the lines of its reports and those of its town."""
-        self.check(self.reply(), "", None)
-        for group, part in counted([*zip(self.groups, self.parts)], "angles"):
-            lots = {lot.name: lot for lot in group.lots}
-            answers = []
-            for command in commands(["version 2"] + part)[1:]:
-                answers.append(self.reply())
-                self.check(
-                    answers[-1],
-                    " ".join(command.words),
-                    lots.get("".join(command.words[1:2])) if command.words[:1] == ["lot"] else None,
-                )
-            *reports, town = answers[-self.number :]
-            yield group, reports, town[1:]
-
-    def check(self, reply, line, lot):
-        if is_refused(reply):
-            why = reply[0][10:]
-            place = f"{lot.place} (lot `{lot.name}`)" if lot else f"{self.rules.path}, `{line[:40]}`"
-            raise Refused(
-                f"{place}: {why}: {HELP.get(why.split()[0], f'tools/lint {self.rules.path} says what is wrong')}"
-            )
-
-    def close(self):
-        self.process.kill()
-        self.process.wait()
-        self.process.stdout.close()
+    def lots(self) -> int:
+        return sum(len(group.lots) for group in self.groups)
 
 
-def moved(lines, angle, shift):
-    """The lines of an OBJ text, turned back by the angle, with the numbers of vertices moved."""
-    for line in lines:
-        if line.startswith("v ") and angle:
-            x, y, z = line.split()[1:]
-            x, z = turned((float(x), float(z)), -angle)
-            yield f"v {round(x, 6) + 0.0:.6f} {y} {round(z, 6) + 0.0:.6f}\n"
-        elif line.startswith("f ") and shift:
-            yield "f " + " ".join(str(int(word) + shift) for word in line.split()[1:]) + "\n"
-        else:
-            yield line + "\n"
+def batches(program: str, rules: Rules, groups: Sequence[Group], reports: Sequence[str]) -> List[Batch]:
+    """Runs of some groups each, one after the other: two for each processor, as far as they have enough lots."""
+    number = min(2 * (os.cpu_count() or 1), 1 + sum(len(group.lots) for group in groups) // FEW)
+    most = sum(len(group.lots) for group in groups) / number
+    found = [Batch(program, rules, [], reports)]
+    for group in groups:
+        if found[-1].lots() >= most:
+            found.append(Batch(program, rules, [], reports))
+        found[-1].groups.append(group)  # type: ignore[attr-defined]
+    return found
 
 
-def write_town(file, program, rules, groups, reports=("faults",)):
+def derived(batch: Batch) -> List[Tuple[List[Report], bytes]]:
+    """Of each group the lines of its reports, and its town, turned back."""
+    parts = [batch.part(group) for group in batch.groups]
+    status, out = output(batch.program, text_of(["version 2", *(line for part in parts for line in part)]))
+    before, *towns = out.split(OBJ)
+    found = []
+    for group, part, town in zip(batch.groups, parts, towns + [b""] * len(parts)):
+        answers = list(replies(before.decode("latin-1").split("\n")[:-1]))[len(found) == 0 :]
+        check(batch, group, part, answers)
+        if len(found) == len(towns):
+            raise Refused(f"no answer: the program ended with status {status}")
+        end = 0 if town.startswith(b"# ") else town.find(b"\n# ") + 1 or len(town)
+        before = town[end:]
+        found.append((answers[-len(batch.reports) :], turned_back(town[:end], group.angle)))
+    return found
+
+
+def check(batch: Batch, group: Group, part: Sequence[str], answers: Sequence[Report]) -> None:
+    """Refused where the program refuses a line."""
+    lots = {lot.name: lot for lot in group.lots}
+    for command, answer in zip(commands(["version 2", *part])[1:], answers):
+        if is_refused(answer):
+            line, why = " ".join(command.words), answer[0][10:]
+            lot = lots.get("".join(command.words[1:2])) if command.words[:1] == ["lot"] else None
+            place = f"{lot.place} (lot `{lot.name}`)" if lot else f"{batch.rules.path}, `{line[:40]}`"
+            help_ = HELP.get(why.split()[0], f"tools/lint {batch.rules.path} says what is wrong")
+            raise Refused(f"{place}: {why}: {help_}")
+
+
+def towns(program: str, rules: Rules, groups: Sequence[Group], reports: Sequence[str]) -> Iterator[Tuple[Any, bytes]]:
+    found = batches(ready(program), rules, groups, reports)
+    with workers(min(len(found), os.cpu_count() or 1)) as pool:
+        for some in counted(pool(derived, found), "runs", len(found)):
+            yield from some
+
+
+def write_town(
+    file: TextIO, program: str, rules: Rules, groups: Sequence[Group], reports: Sequence[str] = ("faults",)
+) -> List[List[Report]]:
     """Writes the town, and gives for each report its lines of all groups."""
-    run, found, shift = Run(program, rules, groups, reports), [[] for _ in reports], 0
-    try:
-        file.write("# cga_city obj\n")
-        for group, some, lines in run.towns():
-            file.writelines(moved(lines, group.angle, shift))
-            shift += sum(line.startswith("v ") for line in lines)
-            for one, told in zip(found, some):
-                one.append(told)
-    finally:
-        run.close()
+    found: List[List[Report]] = [[] for _ in reports]
+    shift = 0
+    file.write(OBJ.decode())
+    for some, text in towns(program, rules, groups, reports):
+        file.write(moved(text, shift).decode("latin-1"))
+        shift += text.count(b"\nv ")
+        for one, told in zip(found, some):
+            one.append(told)
     return found

@@ -65,7 +65,7 @@ class Angles(RegionTest):
         plan = json.loads((self.folder / "plan.json").read_bytes())
         names = [{plan["lots"][at][0] for at in own} for _, own, *_ in plan["jobs"]]
         self.assertEqual(sorted(map(sorted, names)), [["a"], ["a"], ["b"], ["b"]])
-        self.assertEqual(sorted(angle for *_, angle in plan["jobs"]), [0, 0, 45, 45])
+        self.assertEqual(sorted(angle for *_, angle, _, _ in plan["jobs"]), [0, 0, 45, 45])
 
     def test_no_question_sees_over_angles_and_it_is_told(self):
         # the box of a is its ground, longer by its seed: 0 to 5 by 0 to 4; that of b comes to -4 to 0 by -2 to 3

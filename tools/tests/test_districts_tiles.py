@@ -1,8 +1,9 @@
 """Tiles of a region hold what is joined, in boxes that hold it, with coarser heads above."""
+import json
 import unittest
 
 from regions import RULES, RegionTest, asking, chances, random_lots
-from tiles_reader import read_tileset
+from tiles_reader import read_table, read_tileset
 
 LOTS = [f"lot l{k} 1 {k % 6 * 100} {k // 6 * 100} 4 4 wall" for k in range(36)]
 COARSE = [*RULES[:2], '1: wall -> I("gable")', "end"]
@@ -52,6 +53,12 @@ class Tiles(RegionTest):
         ((_, _, triangles),) = self.tiles()
         self.assertEqual(min(triangles[0]), (10000000.25, 9999998.75, 0.0))
 
+    def test_a_town_about_its_middle_is_told_from_near(self):
+        """The square that holds both lots in one job is as large as all numbers of scripts."""
+        self.cut([*RULES, "lot a 1 -7.25 -3.5 4 4 wall", "lot b 1 90 70 4 4 wall"])
+        ((_, _, triangles),) = self.tiles()
+        self.assertIn((-7.25, 3.5, 0.0), {point for corners in triangles for point in corners})
+
     def test_coarser_heads_are_levels_of_detail(self):
         coarse = self.top / "coarse.cga"
         coarse.write_text("\n".join(COARSE))
@@ -82,6 +89,52 @@ class Tiles(RegionTest):
                 "".join(line for line in path.read_text().splitlines(True) if not line.startswith("# hull"))
             )
         self.assertEqual(len(self.tiles()), 2)
+
+    def ground(self, **properties):
+        """A map's ground that knows the first lot of LOTS, and a pond."""
+        ring = [[0, 0], [4, 0], [4, 4], [0, 4]]
+        plot = {"lot": "l0", "feature": 1, "name": "1/1", "area": 16, "ring": ring, "holes": [], "front": ring[2:]}
+        pond = {"kind": "water", "name": "", "ring": [[6, 0], [9, 0], [9, 4]], "holes": []}
+        place = {"system": "EPSG:25832", "units": "metres", "origin": ["0", "0"], "angle": 0}
+        plots = [{**plot, "properties": properties}]
+        told = {"format": "cga_city ground 1", "place": place, "plots": plots, "ways": [], "areas": [pond]}
+        path = self.top / "ground.json"
+        path.write_text(json.dumps(told))
+        return path
+
+    def tables(self, number=0):
+        """The rows of all lots' tables, by lot."""
+        paths = sorted((self.folder / "tiles").glob("*.glb"))
+        return {row["lot"]: row for path in paths for row in read_table(path.read_bytes(), number)}
+
+    def test_a_tile_knows_lots_and_symbols(self):
+        self.cut([*RULES, *LOTS[:4]], 2)
+        self.tiles()
+        self.assertEqual(self.tables(), {f"l{k}": {"lot": f"l{k}", "name": f"l{k}"} for k in range(4)})
+        path = next((self.folder / "tiles").glob("*.glb"))
+        self.assertEqual(read_table(path.read_bytes(), 1), [{"symbol": "wall"}])
+
+    def test_a_map_gives_names_properties_and_ground(self):
+        self.cut([*RULES, *LOTS[:4]], 1, "--ground", self.ground(zone="W2", storeys=3))
+        tiles = self.tiles()
+        self.assertEqual(self.tables()["l0"], {"lot": "l0", "name": "1/1", "zone": "W2", "storeys": "3"})
+        self.assertEqual(self.tables()["l1"], {"lot": "l1", "name": "l1"})
+        self.assertEqual(self.tables()["ground"], {"lot": "ground", "name": "ground"})
+        drawn = {tuple(round(part, 3) for part in at) for *_, some in tiles for three in some for at in three}
+        self.assertIn((9, -4, 0.03), drawn, "a corner of the pond")
+        before = self.todo(), set((self.folder / "tiles").glob("*.glb"))
+        self.cut([*RULES, *LOTS[:4]], 1, "--ground", self.ground(zone="W3", storeys=3))
+        self.assertEqual(self.todo(), before[0], "no job is run again")
+        self.tiles()
+        self.assertEqual(
+            len(set((self.folder / "tiles").glob("*.glb")) - before[1]), 2, "the tile of l0, and the ground"
+        )
+        self.call("tidy", self.folder)
+        self.assertEqual((len(list(self.folder.glob("facts/*"))), len(list(self.folder.glob("tiles/*.glb")))), (1, 5))
+
+    def test_the_ground_of_another_town_is_refused(self):
+        answer = self.cut([*RULES, "lot z 1 0 0 4 4 wall"], 1, "--ground", self.ground())
+        self.assert_refused(answer, "ground.json: no lot of the script is in it")
 
     def test_a_coarser_head_that_asks_is_refused(self):
         coarse = self.top / "coarse.cga"

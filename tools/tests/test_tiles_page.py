@@ -141,6 +141,18 @@ class InBrowser(Pages):
         self.assertEqual(self.browser.run("[town.offset, tiles.drawn.length]"), [[90001, 0, 70001], 1])
         self.assertGreater(self.colours(), 5000)
 
+    def test_turned_tiles_are_drawn_where_they_stand(self):
+        """The cube of the second lot is 1 by 1 from (0, 10) in a frame that is turned by 30 degrees."""
+        self.open(self.tiles([*RULES, "lot a 1 40 0 8 8 wall", "lot b 1 0 10 8 8 wall turned 30"]))
+        places = "[...tiles.drawn.find(tile => tile.matrix[1]).parts[0].places]"
+        known = [(-10 * 0.5, 10 * 0.8660254), (-11 * 0.5 + 0.8660254, 11 * 0.8660254 + 0.5)]
+        tile = "tiles.drawn.find(tile => tile.matrix[1]).origin"
+        numbers, (x, y, z) = self.browser.run(f"[{places}, {tile}]")
+        seen = {(round(a + x, 3), round(c + z, 3)) for a, _, c in zip(*[iter(numbers)] * 3)}
+        self.assertTrue({(round(a, 3), round(c, 3)) for a, c in known} <= seen, seen)
+        self.assertEqual(self.seen()[1], 2)
+        self.assertGreater(self.colours(), 100)
+
     def test_no_more_is_loaded_than_can_be_drawn(self):
         self.open(self.tiles([*RULES, *lots(4)]))
         self.assertEqual(self.seen()[1], 4)

@@ -4,7 +4,7 @@ import struct
 from itertools import product
 
 COMPONENTS = {"SCALAR": 1, "VEC3": 3}
-KINDS = {5126: "f", 5125: "I"}
+KINDS = {5126: "f", 5125: "I", 5123: "H"}
 STILL = [1, 0, 0, 0, 0, 1, 0, 0, 0, 0, 1, 0, 0, 0, 0, 1]
 
 
@@ -48,9 +48,43 @@ def read_node(scene, node, binary):
         points = read_accessor(scene, binary, primitive["attributes"]["POSITION"], 34962)
         indices = read_accessor(scene, binary, primitive["indices"], 34963)
         demand(len(indices) % 3 == 0 and max(indices) < len(points) // 3, "triangles name vertices that are there")
+        read_normals(points, indices, read_accessor(scene, binary, primitive["attributes"]["NORMAL"], 34962))
+        for features in primitive["extensions"]["EXT_mesh_features"]["featureIds"]:
+            ids = read_accessor(scene, binary, primitive["attributes"][f"_FEATURE_ID_{features['attribute']}"], 34962)
+            demand(len(ids) == len(points) // 3 and max(ids) < features["featureCount"], "each vertex has its feature")
         yield from (
             tuple(tuple(points[3 * at : 3 * at + 3]) for at in indices[k : k + 3]) for k in range(0, len(indices), 3)
         )
+
+
+def read_normals(points, indices, normals):
+    """The normal of a triangle, counter-clockwise as it is seen, is that of its corners."""
+    for k in range(0, len(indices), 3):
+        a, b, c = (points[3 * at : 3 * at + 3] for at in indices[k : k + 3])
+        one, other = ([q - p for p, q in zip(a, end)] for end in (b, c))
+        way = [one[axis - 2] * other[axis - 1] - one[axis - 1] * other[axis - 2] for axis in range(3)]
+        size = sum(part * part for part in way) ** 0.5
+        for at in indices[k : k + 3]:
+            told = normals[3 * at : 3 * at + 3]
+            demand(all(abs(part - size * its) <= 1e-3 * size for part, its in zip(way, told)), "a normal")
+
+
+def read_table(data, number):
+    """The rows of a property table of texts, by the names that its schema has."""
+    size = struct.unpack_from("<I", data, 12)[0]
+    scene, binary = json.loads(data[20 : 20 + size]), data[28 + size :]
+    demand("EXT_structural_metadata" in scene["extensionsUsed"], "the extension is named")
+    held = scene["extensions"]["EXT_structural_metadata"]
+    table = held["propertyTables"][number]
+    names = held["schema"]["classes"][table["class"]]["properties"]
+    rows = [{} for _ in range(table["count"])]
+    for word, column in table["properties"].items():
+        ends, values = (scene["bufferViews"][column[kind]] for kind in ("stringOffsets", "values"))
+        demand(ends["byteOffset"] % 8 == values["byteOffset"] % 8 == 0, "views of tables begin at eight bytes")
+        at = struct.unpack_from(f"<{table['count'] + 1}I", binary, ends["byteOffset"])
+        for row, begin, end in zip(rows, at, at[1:]):
+            row[names[word]["name"]] = binary[values["byteOffset"] + begin : values["byteOffset"] + end].decode()
+    return rows
 
 
 def read_accessor(scene, binary, number, target):
@@ -58,12 +92,13 @@ def read_accessor(scene, binary, number, target):
     view = scene["bufferViews"][accessor["bufferView"]]
     count = accessor["count"] * COMPONENTS[accessor["type"]]
     demand(view["buffer"] == 0 and view["target"] == target and view["byteOffset"] % 4 == 0, "a view")
+    form = f"<{count}{KINDS[accessor['componentType']]}"
     demand(
-        4 * count <= view["byteLength"] and view["byteOffset"] + view["byteLength"] <= len(binary),
+        struct.calcsize(form) <= view["byteLength"] and view["byteOffset"] + view["byteLength"] <= len(binary),
         "a view within the buffer",
     )
-    numbers = struct.unpack_from(f"<{count}{KINDS[accessor['componentType']]}", binary, view["byteOffset"])
-    if accessor["type"] == "VEC3":
+    numbers = struct.unpack_from(form, binary, view["byteOffset"])
+    if "min" in accessor:
         ends = [[end(numbers[axis::3]) for axis in range(3)] for end in (min, max)]
         demand([accessor["min"], accessor["max"]] == ends, "least and greatest places")
     return numbers

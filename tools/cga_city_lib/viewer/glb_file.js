@@ -1,6 +1,6 @@
 'use strict';
 // A glTF file in one piece, as tiles have it: nodes of meshes whose parts have places, triangles and a colour.
-const GLTF = 0x46546C67, JSON_CHUNK = 0x4E4F534A;
+const GLTF = 0x46546C67, JSON_CHUNK = 0x4E4F534A, INDICES = {5123: Uint16Array, 5125: Uint32Array};
 
 // The parts of the file's scene, each with its colour, its places and its triangles.
 function parts_of_glb(data) {
@@ -14,7 +14,7 @@ function parts_of_glb(data) {
   };
   return nodes.flatMap(node => told.meshes[told.nodes[node].mesh].primitives).map(({attributes, indices, material}) => ({
     colour: told.materials[material].pbrMetallicRoughness.baseColorFactor.slice(0, 3).map(shown_part),
-    places: numbers(attributes.POSITION, Float32Array, 3), triangles: numbers(indices, Uint32Array, 1)}));
+    places: numbers(attributes.POSITION, Float32Array, 3), triangles: Uint32Array.from(numbers(indices, INDICES[told.accessors[indices].componentType], 1))}));
 }
 
 // A part of a colour from 0 to 255, off the light that a file tells.

@@ -71,7 +71,7 @@ class Tiles {
     ask_draw();
   }
   keep(tile, parts) {
-    Object.assign(tile, {state: 'here', parts: parts.map(sent_part), triangles: parts.reduce((sum, part) => sum + part.triangles.length / 3, 0)});
+    Object.assign(tile, {state: 'here', parts: parts.map(part => sent_part(tile.turned(part))), triangles: parts.reduce((sum, part) => sum + part.triangles.length / 3, 0)});
     this.loaded.add(tile);
     paint(head.colours);
   }
@@ -147,7 +147,7 @@ class Tiles {
 async function open_tiles({title, tileset}) {
   document.title = title;
   try {
-    const base = new URL(tileset, location.href), told = await (await fetch(base)).json(), root = new Tile(told.root, base, [0, 0, 0]);
+    const base = new URL(tileset, location.href), told = await (await fetch(base)).json(), root = new Tile(told.root, base, STILL);
     town.offset = root.low.map(Math.floor);
     [town.low, town.high] = [root.low, root.high].map(at => minus(at, town.offset));
     tiles = new Tiles(root);
