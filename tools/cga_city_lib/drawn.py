@@ -8,6 +8,8 @@ from itertools import chain
 from urllib.parse import quote
 
 from .instances import Reals
+from .own_drawn import own_form
+from .places import stand_of
 from .progress import counted
 
 AXES = "+X+Y+Z"
@@ -39,11 +41,12 @@ class Meshes:
     def __init__(self):
         self.names, self.told = {}, {}
 
-    def name(self, corners, faces):
-        key = (corners, faces)
+    def name(self, corners, faces, tones=()):
+        key = (corners, faces, tones)
         if key not in self.names:
             self.names[key] = f"mesh{len(self.names)}"
-            self.told[self.names[key]] = {"corners": corners, "faces": faces}
+            more = {"tones": tones} if tones else {}
+            self.told[self.names[key]] = {"corners": corners, "faces": faces, **more}
         return self.names[key]
 
     def line(self, lot, solid, points):
@@ -61,13 +64,19 @@ class Meshes:
         drawn = [(lot, solid) for lot, solids in town.lots.items() for solid in solids]
         return [self.line(name_of(lot), solid, town.points) for lot, solid in counted(drawn, "solids")]
 
-    def lines_of(self, lots):
-        """The same of instances; those of a script are told as they came."""
+    def lines_of(self, lots, own={}):
+        """The same of instances; those of a script are told as they came, and so are those of a symbol that has a mesh of one's
+        own, if they are along the world's axes."""
         reals, known, lines = Reals(), {}, []
         for lot, instances in counted(lots.items(), "lots"):
             head = name_of(lot)
-            for symbol, form, corner in instances:
-                if form.scope:
+            for number, (symbol, form, corner) in enumerate(instances):
+                if not form.scope and symbol in own:
+                    told = known.get((form, symbol)) or known.setdefault(
+                        (form, symbol), own_form(stand_of(lot, number, form), own[symbol])
+                    )
+                    lines.append(self.own_line(head, symbol, told, [reals[text] for text in corner]))
+                elif form.scope:
                     x, y, z = corner
                     lines.append(f"{head} {name_of(symbol)} {form.scope.kind} {x} {y} {z} {form.scope.told}")
                 else:
@@ -76,6 +85,14 @@ class Meshes:
                     place = [number_of(reals[text] + least) for text, least in zip(corner, low)]
                     lines.append(" ".join([head, name_of(symbol), name, *place, AXES, *size]))
         return lines
+
+    def own_line(self, head, symbol, told, corner):
+        """The line of a solid that a mesh of one's own stands for."""
+        if told.words:
+            return " ".join([head, name_of(symbol), told.kind, *map(number_of, corner), told.words])
+        place = [number_of(at + least) for at, least in zip(corner, told.low)]
+        name = self.name(told.corners, told.faces, told.tones)
+        return " ".join([head, name_of(symbol), name, *place, AXES, *map(number_of, told.size)])
 
     def of_form(self, form):
         """The name of a form's mesh, its low corner from its first one on, and its size."""

@@ -111,7 +111,7 @@ class Ways:
 
 def edits(old, new, lines, commands):
     """The edits, or None where none lead there."""
-    if (old.is_second, old.head) != (new.is_second, new.head):
+    if (old.is_second, old.head, old.assets) != (new.is_second, new.head, new.assets):
         return None
     ways = Ways(old, new, lines, commands)
     stay = [name for name in old.lots if name in new.lots]

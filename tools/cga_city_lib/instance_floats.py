@@ -14,6 +14,7 @@ EMPTY = array("f", [-9.0 if at == MOMENT else 0.0 for at in range(FLOATS)]).toby
 WORDS = 10  # of a line
 MOST_TEXTS = 200_000  # texts whose values are kept
 RIDGED = (b"gable", b"hip")
+SOLIDS = (b"cube", b"quad", b"shed", *RIDGED)
 
 Value = TypeVar("Value")
 
@@ -78,10 +79,11 @@ class Columns(NamedTuple):
 
 
 class Reader:
-    """Reads lines; numbers that were met are kept."""
+    """Reads lines; numbers that were met are kept. `own` has the mesh that stands for each solid of a symbol, if one does."""
 
     def __init__(self) -> None:
         self.values, self.codes = Kept(number_of), Kept(code_of)
+        self.own: Dict[bytes, bytes] = {}
 
     def columns(self, lines: Sequence[bytes]) -> Columns:
         """The instances of lines, of which there is one at least."""
@@ -94,6 +96,9 @@ class Reader:
             solid + (b"_along" if wide >= deep else b"_across") if solid in RIDGED else solid
             for solid, wide, deep in zip(solids, forms[0], forms[2])
         ]
+        if self.own:
+            worn = zip(symbols, solids, meshes)
+            meshes = [self.own.get(symbol, mesh) if solid in SOLIDS else mesh for symbol, solid, mesh in worn]
         return Columns(lots, symbols, meshes, numbers[:3], forms)
 
 

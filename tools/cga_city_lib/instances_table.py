@@ -137,6 +137,23 @@ class Instances:
             self.held.update(zip([lines[at] for at in numbers], table.put(pieces(floats, numbers))))
         return columns.farthest(self.offset)
 
+    def dress(self, own: Mapping[bytes, bytes]) -> None:
+        """Takes other meshes of one's own: the instances of each symbol whose mesh is another one go into its table."""
+        was = self.reader.own
+        changed = {symbol for symbol in {*own, *was} if own.get(symbol) != was.get(symbol)}
+        moved = [line for line in self.held if line.split(b" ", 2)[1] in changed] if changed else []
+        slots: Dict[int, List[int]] = {table.number: [] for table in self.numbered}
+        for place in [self.held.pop(line) for line in moved]:
+            slots[place & NUMBER].append(place >> TABLES)
+        for table in self.numbered:
+            if slots[table.number]:
+                table.drop(slots[table.number])
+                if len(table.free) == len(table):
+                    table.clear()
+                    table.changed = array("I")
+        self.reader.own = dict(own)
+        self.add(moved)
+
     def remove(self, gone: Mapping[bytes, int]) -> None:
         places: Dict[int, List[int]] = {table.number: [] for table in self.numbered}
         for line, times in gone.items():

@@ -6,10 +6,11 @@ from .live import Live
 from .pipe import Ended
 from .plain_script import Told, sources_of
 from .replies import counts_of, is_refused
-from .script import is_open
+from .script import is_blank, is_open, is_version, words_of
 from .session import OPEN
 
 UNSENT = "quiet print stats faults grammar".split()  # they edit nothing and are never refused, and some take long
+UNSENT_2 = [*UNSENT, "model"]  # in version 2
 FEW = 4  # edits of a save, up to which each is asked how many shapes were expanded
 MANY_LOTS = 100  # that may come by edits, whatever their part of the town
 BEYOND = ("NoSymbol", "OverBudget", "TooManyLots")  # causes that may be another line's in a run from nothing
@@ -147,7 +148,9 @@ class LiveTown:
 
     def feed(self, live, lines, found):
         """Sends commands; reports that edit nothing aren't sent, and count as accepted."""
-        sent = [command for command in found if not (len(command.words) == 1 and command.words[0] in UNSENT)]
+        first = next((line for line in lines if not is_blank(line)), "")
+        unsent = UNSENT_2 if is_version(words_of(first)) else UNSENT
+        sent = [command for command in found if not (len(command.words) == 1 and command.words[0] in unsent)]
         got = iter(
             live.ask(
                 [line for command in sent for line in lines[command.first : command.last + 1]] + ["stats"],

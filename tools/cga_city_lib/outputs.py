@@ -84,6 +84,7 @@ class Outputs:
         self.path, self.outputs, self.say, self.drawn = path, outputs, say, KeptInstances()
         self.words = words  # that each tool is called with, as --set and --program
         self.source, self.said, self.is_first = b"", "", True
+        self.dress: Optional[Mapping[str, str]] = None  # the mesh of each symbol that has one of one's own
 
     def value(self, name: str, otherwise: Any) -> Any:
         return otherwise
@@ -95,7 +96,8 @@ class Outputs:
             self.say(said)
         self.said = said if said is not None else self.said
         if "save" in head and not head["is_stale"]:
-            self.make(is_changed or self.is_first or self.is_dressed())
+            is_changed, self.dress = is_changed or head.get("dress") != self.dress, head.get("dress")
+            self.make(is_changed or self.is_first)
 
     def is_dressed(self) -> bool:
         return any(command.words[:1] == ["dress"] for command in commands(lines_of(self.source)))

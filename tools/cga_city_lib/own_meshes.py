@@ -38,6 +38,9 @@ def add_words(known: argparse.ArgumentParser) -> None:
     known.add_argument("--mesh", action="append", type=mesh_word, default=[])
 
 
+worn_mesh = lru_cache(maxsize=64)(asset_mesh)
+
+
 @lru_cache(maxsize=64)
 def read_at(path: str, moment: int, size: int) -> OwnMesh:
     return READERS[Path(path).suffix.lower()](Path(path))
@@ -63,7 +66,7 @@ class Said(NamedTuple):
 
 def said_in(lines: Iterable[str], folder: Path) -> Dict[str, Said]:
     """The mesh of each symbol, as a script's comments say it; the last one of a symbol counts."""
-    found = ((number, MESH.fullmatch(line)) for number, line in enumerate(lines, 1))
+    found = ((number, MESH.fullmatch(line)) for number, line in enumerate(lines, 1) if line.startswith("# mesh "))
     return {match.group(1): Said(number, str(folder / match.group(2))) for number, match in found if match}
 
 
@@ -80,17 +83,17 @@ def read_said(script: str, said: Said) -> OwnMesh:
 def unread(lines: Sequence[str]) -> Iterator[Tuple[int, str]]:
     """The number of each line that begins so and can't be read, and what it should be."""
     for number, line in enumerate(lines, 1):
-        if BEGUN.match(line) and not MESH.fullmatch(line):
+        if line.startswith("#") and BEGUN.match(line) and not MESH.fullmatch(line):
             yield number, HELP
 
 
-def dressed_by(lines: Sequence[str], found: Sequence[Command], answers: Sequence[Sequence[str]]) -> Meshes:
+def dressed_by(lines: Sequence[str], found: Sequence[Command], answers: Sequence[List[str]]) -> Meshes:
     """The assets in which a script's lines dress symbols, by the lines that were accepted."""
     assets: Dict[str, List[str]] = {}
     worn: Dict[str, str] = {}
     for command, answer in zip(found, answers):
         head, *names = command.words or [""]
-        if list(answer) != OK:
+        if answer != OK:
             continue
         if head == "asset":
             assets[names[0]] = list(lines[command.first + 1 : command.last])
@@ -98,8 +101,7 @@ def dressed_by(lines: Sequence[str], found: Sequence[Command], answers: Sequence
             worn[names[0]] = names[1]
         elif head == "undress":
             worn.pop(names[0], None)
-    meshes = {name: asset_mesh(name, assets[name]) for name in dict.fromkeys(worn.values())}
-    return {symbol: meshes[name] for symbol, name in worn.items()}
+    return {symbol: worn_mesh(name, tuple(assets[name])) for symbol, name in worn.items() if name in assets}
 
 
 def check_drawn(pairs: Iterable[Tuple[str, str]], known: Sequence[str]) -> None:

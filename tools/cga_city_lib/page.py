@@ -7,6 +7,7 @@ from urllib.parse import unquote
 
 from .colours import shade_of
 from .drawn import Meshes
+from .own_meshes import told_of
 from .shown import Shown
 
 VIEWER = Path(__file__).parent / "viewer"
@@ -14,6 +15,7 @@ SCRIPTS = [
     "gl",
     "camera",
     "meshes",
+    "own_meshes",
     "town",
     "buffers",
     "light",
@@ -44,6 +46,14 @@ def data_of(town, title, **head):
     meshes = Meshes()
     lines = meshes.lines(town)
     return packed(title, lines, meshes.told, **head)
+
+
+def data_of_lots(lots, title, own, beside, **head):
+    """The same of instances, with the meshes of one's own by symbol, and of a town that stands beside."""
+    meshes = Meshes()
+    lines = [*meshes.lines(beside), *meshes.lines_of(lots, own)]
+    dress, told = told_of(own)
+    return packed(title, lines, {**meshes.told, **told}, dress=dress, **head)
 
 
 def packed(title, lines, meshes, **head):

@@ -8,7 +8,8 @@ from collections import namedtuple
 
 from .script import is_open, rule_of, words_of
 
-REPORTS = "quiet print stats faults grammar bill trace".split()
+REPORTS = "quiet print model stats faults grammar bill trace".split()
+ASSETS = "asset dress undress".split()
 WHOLE = re.compile(r"0*(\d{1,5})(\.0+)?")
 
 Rule = namedtuple("Rule", "priority symbol text at")  # at: its place in the lines
@@ -21,10 +22,11 @@ def same(one, other):
 
 
 class Sources:
-    """`block` is the place of the block's command; what it says itself is kept apart from what lines behind it say."""
+    """`block` is the place of the block's command; what it says itself is kept apart from what lines behind it say. `assets` has
+    the lines by which symbols are dressed, which edit no town."""
 
     def __init__(self):
-        self.is_second, self.block, self.head, self.order = False, None, "", ""
+        self.is_second, self.block, self.head, self.order, self.assets = False, None, "", "", ()
         self.rules, self.attributes, self.lots = {}, {}, {}
         self.block_attributes, self.block_lots = {}, {}
 
@@ -72,6 +74,9 @@ class Sources:
             self.is_second = True
             return True
         if len(command.words) == 1 and head in REPORTS:
+            return True
+        if self.is_second and head in ASSETS and not is_open(command, lines):
+            self.assets += tuple(lines[command.first : command.last + 1])
             return True
         if self.block is None:
             return (

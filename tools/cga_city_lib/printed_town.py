@@ -40,5 +40,6 @@ class PrintedTown:
         if self.drawn is None:
             self.shown.put(**head)
         else:
-            self.shown.replace((line.encode() for line in self.drawn), meshes=dict(self.meshes.told), **head)
+            head["meshes"] = {**self.meshes.told, **head.get("meshes", {})}
+            self.shown.replace((line.encode() for line in self.drawn), **head)
         self.drawn = None

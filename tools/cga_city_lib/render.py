@@ -1,6 +1,6 @@
 """A picture of a town by the processor alone: parallel light from a sun with shadows, seen from afar."""
 import math
-from typing import Any, List, Optional, Sequence, Tuple
+from typing import Any, List, Mapping, Optional, Sequence, Tuple
 
 from .colours import colour_of
 from .eye import NOTHING, Eye, Point, dot, normal, unit
@@ -71,11 +71,13 @@ def tone(colour: Colour, up: Point, is_lit: bool) -> bytes:
     return bytes(min(255, int(part * light)) for part in colour)
 
 
-def triangles_of(town: Any, eye: Eye) -> Tuple[List[Tuple[Point, Point, Point]], List[Look]]:
+def triangles_of(
+    town: Any, eye: Eye, colours: Mapping[str, Colour]
+) -> Tuple[List[Tuple[Point, Point, Point]], List[Look]]:
     """The town's triangles, and the colour of each with the normal that the eye sees."""
     triangles, looks = [], []
     for solid in town.solids():
-        colour = colour_of(solid.symbol)
+        colour = colours.get(solid.symbol) or colour_of(solid.symbol)
         for face in solid.faces:
             corners = [town.points[at] for at in face]
             up = normal(*corners[:3])
@@ -95,8 +97,10 @@ def smaller(rows: Sequence[bytes]) -> bytes:
     return bytes(pixels)
 
 
-def render(town: Any, view: str = "bird", width: int = 1280, height: int = 800) -> List[bytes]:
-    """The picture's rows of red, green and blue bytes, from the top."""
+def render(
+    town: Any, view: str = "bird", width: int = 1280, height: int = 800, colours: Mapping[str, Colour] = {}
+) -> List[bytes]:
+    """The picture's rows of red, green and blue bytes, from the top. Symbols with colours of their own are named."""
     eye = Eye(VIEWS[view], town.points, FINE * width, FINE * height, 0.90)
-    painter = Painter(eye, town, *triangles_of(town, eye))
+    painter = Painter(eye, town, *triangles_of(town, eye, colours))
     return [smaller([painter.row(y + k) for k in range(FINE)]) for y in counted(range(0, FINE * height, FINE), "rows")]

@@ -10,7 +10,7 @@ import threading
 from array import array
 from collections import Counter, deque, namedtuple
 from itertools import chain
-from typing import Any, Deque, Dict, Iterable, List, Mapping, Tuple
+from typing import Any, Deque, Dict, Iterable, List, Mapping, Optional, Tuple
 
 from .instance_floats import SIZE
 from .instances_table import Instances, Table, runs
@@ -31,15 +31,18 @@ class Shown:
         self.renewed: Dict[int, int] = {}  # the number of the change since which a table has to be told whole
         self.put(title=title, said="", is_busy=True, values={})
 
-    def put(self, changes: Mapping[bytes, int] = {}, **head: Any) -> None:
-        """Takes how much more often each line is drawn, and values of the head."""
+    def put(self, changes: Mapping[bytes, int] = {}, dress: Optional[Mapping[str, str]] = None, **head: Any) -> None:
+        """Takes how much more often each line is drawn, the name of each symbol's own mesh, and values of the head."""
+        was = self.drawn.reader.own
+        own = was if dress is None else {symbol.encode(): mesh.encode() for symbol, mesh in dress.items()}
         with self.changed:
             told = {name: value for name, value in head.items() if name not in self.head or self.head[name][1] != value}
-            if not told and not any(changes.values()):
+            if not told and not any(changes.values()) and own == was:
                 return
             self.number += 1
             self.head.update({name: (self.number, value) for name, value in told.items()})
             names = len(self.drawn.lots), len(self.drawn.symbols)
+            self.drawn.dress(own)
             self.drawn.take(changes)
             self.note(*names)
             self.changed.notify_all()

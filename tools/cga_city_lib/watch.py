@@ -4,11 +4,12 @@ import threading
 import time
 from pathlib import Path
 
-from . import about, files, kept_views, panel_words
+from . import about, files, kept_views, own_meshes, panel_words
 from .call import Refused
 from .pipe import Ended
 from .replies import is_refused
 from .report import Report
+from .saved_meshes import SavedMeshes
 from .script import lines_of, text_of
 from .script_words import ScriptWords
 
@@ -21,8 +22,8 @@ AWAY = 0.5  # seconds for which an editor that saves may take the file away
 class Watch:
     """Shows what the script comes to after each save, and after each turn of a slider."""
 
-    def __init__(self, path, town, shown):
-        self.path, self.town, self.shown = path, town, shown
+    def __init__(self, path, town, shown, meshes=()):
+        self.path, self.town, self.shown, self.meshes = path, town, shown, SavedMeshes(path, meshes)
         self.seen, self.data, self.saves, self.wanted, self.woken = None, None, 0, {}, threading.Event()
         self.values, self.turns = {}, 0  # of the sliders beside the script's, and how often they were set
         self.away = None  # since when the file has been away
@@ -60,6 +61,8 @@ class Watch:
             if data is not None and data != self.data:
                 self.data, self.wanted, self.values = data, {}, {}
                 self.tell(self.show, lines_of(data))
+            elif self.data is not None and self.meshes.is_changed():
+                self.tell(self.show, lines_of(self.data))
             elif self.wanted and self.saves:
                 values, self.wanted = self.wanted, {}
                 self.tell(self.turned, values)
@@ -111,6 +114,7 @@ class Watch:
         found = self.words.commands(lines)
         answers, faults = self.timed(self.town.show, lines, found)
         is_wrong = any(map(is_refused, answers))
+        dress, meshes = own_meshes.told_of(self.meshes.of(lines, found, answers))
         self.town.publish(
             said="\n".join(self.said(lines, found, answers, faults)),
             is_busy=False,
@@ -119,6 +123,8 @@ class Watch:
             stats=self.stats(),
             values=self.values,
             colours={**self.shown.value("colours", {}), **about.colours(lines, found)},
+            dress=dress,
+            meshes=meshes,
             **({} if is_wrong else self.head(lines, found, answers)),
         )
 
@@ -128,8 +134,9 @@ class Watch:
             yield from Report(self.path, lines, found, answers).lines_for(faults)
         elif not found:
             yield f"{self.path}: {EMPTY}"
-        for number, text in [*kept_views.unread(lines), *panel_words.unread(lines)]:
+        for number, text in [*kept_views.unread(lines), *panel_words.unread(lines), *own_meshes.unread(lines)]:
             yield f"{self.path}:{number}: {text}"
+        yield from self.meshes.faults
 
     @staticmethod
     def head(lines, found, answers):

@@ -1,8 +1,12 @@
 """Meshes of one's own: files that are read, and where their corners come in what is written."""
+import base64
+import json
 import math
+import re
 import sys
 import tempfile
 import unittest
+import zlib
 from array import array
 from pathlib import Path
 
@@ -10,8 +14,13 @@ TESTS = Path(__file__).resolve().parent
 sys.path[:0] = [str(TESTS), str(TESTS.parent)]
 
 import own_window  # noqa: E402
+import solid_table  # noqa: E402
+from answers import State  # noqa: E402
+from browser import CHROMIUM  # noqa: E402
 from glb_reader import Reader  # noqa: E402
 from in_process import called  # noqa: E402
+from test_picture import unpacked  # noqa: E402
+from cga_city_lib.colours import MATERIALS  # noqa: E402
 from cga_city_lib.glb import INDICES, VERTICES, Glb  # noqa: E402
 from cga_city_lib.own_mesh_glb import read_glb  # noqa: E402
 from cga_city_lib.own_mesh_obj import read_obj  # noqa: E402
@@ -171,6 +180,90 @@ class InGlb(Files):
             found = called("glb", "--mesh", word, "town.obj", "x.glb", folder=self.folder)
             self.assertEqual(found[0], status)
             self.assertIn(told, found[2])
+
+
+class OnPage(Files):
+    def state(self, *words, town="town.obj"):
+        self.assertEqual(called("view", *words, town, "town.html", folder=self.folder), (0, "", ""))
+        text = (self.folder / "town.html").read_text(encoding="utf-8")
+        (given,) = re.findall(r"^const given = (.*);$", text, re.MULTILINE)
+        state = State()
+        state.take(zlib.decompress(base64.b64decode(json.loads(given)["packed"])))
+        return state
+
+    def stands(self, state, mesh, floats):
+        """Where the corners of a mesh come, by the tone of their part: the place, and each coordinate along an axis."""
+        told, found = state.head["meshes"][mesh], {}
+        place, size, code = floats[:3], floats[4:7], int(floats[7])
+        ways = [code % 6, code // 6 % 6, code // 36]
+        tones = [tuple(tone[1:]) for tone in told["tones"] for _ in range(tone[0])]
+        for corner, tone in zip(told["corners"], tones):
+            at = [a + b for a, b in zip(place, state.head["offset"])]
+            for part, long, way in zip(corner, size, ways):
+                at[way // 2] += part * long * (-1 if way % 2 else 1)
+            found.setdefault(tone, []).append(tuple(at))
+        return found
+
+    def test_corners_come_to_known_places(self):
+        """The corners and the tones that the page is given; each instance is told once, and the mesh once."""
+        state = self.state("--mesh", "window=window.obj")
+        (mesh,) = [name for name in state.tables if name.startswith("own_")]
+        (floats,) = state.tables[mesh].values()
+        grey, glass = round(255 * 0.5), MATERIALS.index("glass")
+        self.assertEqual(
+            self.stands(state, mesh, floats),
+            {(grey, grey, grey, glass): own_window.STANDS["pane"], (255, 0, 0, 0): own_window.STANDS["frame"]},
+        )
+
+    def test_a_solid_at_another_angle_has_a_mesh_along_the_worlds_axes(self):
+        """By 30 degrees, X points to (c, 0, -s): the corner at (1, 0, 0) of the box comes to (10 c, 0, -10 s) of it."""
+        c, s = math.cos(math.radians(30)), math.sin(math.radians(30))
+        solid = ("a", "window", "cube", (2, 1, 3), [(c, 0, -s), (0, 1, 0), (s, 0, c)], (10, 6, 8))
+        self.write("turned.obj", solid_table.text([solid]))
+        state = self.state("--mesh", "window=window.obj", town="turned.obj")
+        ((mesh, slots),) = state.tables.items()
+        found = [rounded(some) for some in self.stands(state, mesh, slots[0]).values()]
+        wanted = [(0, 0, 0), (10 * c, 0, -10 * s), (0, 6, 0)], [
+            (8 * s, 0, 8 * c),
+            (10 * c + 8 * s, 0, 8 * c - 10 * s),
+            (8 * s, 6, 8 * c),
+        ]
+        for some, other in zip(found, wanted):
+            for one, two in zip(some, other):
+                self.assertLess(math.dist(one, [a + b for a, b in zip(two, (2, 1, 3))]), 1e-3)
+
+
+PLATES = (
+    "mtllib plates.mtl\nusemtl grey\nv 0 0 0\nv 4 0 0\nv 4 0 4\nv 0 0 4\nf 4 3 2 1\n"
+    "usemtl red\nv 2 1 0\nv 4 1 0\nv 4 1 2\nv 2 1 2\nf 8 7 6 5\n"
+)
+
+
+class InPictures(Files):
+    def place(self, by):
+        """The middle of what is red in a picture from above, as parts of the picture."""
+        words = ("--by", by, "--mesh", "block=plates.obj", "block.obj", "p.png", "top", "120x90")
+        status, _, fault = called("picture", *words, folder=self.folder)
+        self.assertEqual(status, 0, fault)
+        rows, found = unpacked((self.folder / "p.png").read_bytes(), 120, 90), []
+        for y, row in enumerate(rows):
+            for x in range(120):
+                red, green, blue = row[3 * x : 3 * x + 3]
+                found += [(x + 0.5, y + 0.5)] if red > 1.5 * max(green, blue) else []
+        return [sum(axis) / len(axis) for axis in zip(*found)]
+
+    def test_a_plate_is_seen_where_it_lies(self):
+        """The block of 12 by 12 fills nine tenths of the height of 90: 6.75 pixels a unit. The red quarter has its middle 3 units
+        to the right of the block's and 3 behind, at (60 + 20.25, 45 - 20.25)."""
+        self.write("plates.obj", PLATES)
+        self.write("plates.mtl", "newmtl grey\nKd .5 .5 .5\nnewmtl red\nKd .8 .05 .05\n")
+        upright = own_window.UPRIGHT
+        self.write("block.obj", solid_table.text([("a", "block", "cube", (40, 0, 7), upright, (12, 2, 12))]))
+        for axis, wanted in zip(self.place("python"), (80.25, 24.75)):
+            self.assertLess(abs(axis - wanted), 1.5)
+        if CHROMIUM:  # whose view from above leaves another margin
+            x, y = self.place("chromium")
+            self.assertTrue(68 < x < 85 and 22 < y < 38 and abs((x - 60) - (45 - y)) < 2, (x, y))
 
 
 if __name__ == "__main__":

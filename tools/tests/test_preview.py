@@ -117,6 +117,45 @@ class Live(Preview):
         self.assertEqual(self.page.head["stats"]["worked"], 3)
         self.assertEqual(self.then(RULES + A), ["- b house cube 30 0 0 +X+Y+Z 10 3 8"])
 
+    def test_an_edit_of_a_dressed_town_is_sent_as_an_edit(self):
+        """A lot that moves is one instance that goes and one that comes, of the mesh of one's own; another asset is another mesh."""
+        mesh = "asset box\nv 0 0 0\nv 2 0 0\nv 0 4 0\nf 1/1 2/2 -1/3\nend\ndress house box\nmodel\n"
+        self.begin("version 2\n" + RULES + A + B + mesh)
+        (name,) = self.page.head["meshes"]
+        self.assertEqual(
+            self.page.head["meshes"][name],
+            {"corners": [[0, 0, 0], [1, 0, 0], [0, 1, 0]], "faces": [[0, 1, 2]], "tones": [[3, 0, 0, 0, -1]]},
+        )
+        self.assertEqual(
+            self.then("version 2\n" + RULES + A + B.replace("20", "30") + mesh),
+            [f"+ b house {name} 30 0 0 +X+Y+Z 10 3 8", f"- b house {name} 20 0 0 +X+Y+Z 10 3 8"],
+        )
+        self.assertEqual(self.page.head["stats"]["worked"], 3)
+        came = self.then("version 2\n" + RULES + A + B.replace("20", "30") + mesh.replace("0 4 0", "1 4 0"))
+        (other,) = self.page.head["meshes"]
+        self.assertEqual(
+            (other != name, came[:2]),
+            (True, [f"+ a house {other} 0 0 0 +X+Y+Z 10 3 8", f"+ b house {other} 30 0 0 +X+Y+Z 10 3 8"]),
+        )
+        self.then("version 2\n" + RULES + A)
+        self.assertEqual(list(self.page.drawn()), ["a house cube 0 0 0 +X+Y+Z 10 3 8"])
+
+    def test_a_mesh_in_a_file_is_read_again_when_it_is_saved(self):
+        path = self.script.with_name("own.obj")
+        path.write_text("v 0 0 0\nv 2 0 0\nv 0 4 0\nf 1 2 3\n", encoding="utf-8")
+        self.begin(RULES + A + "# mesh house own.obj\n")
+        (name,) = self.page.head["meshes"]
+        self.assertEqual(list(self.page.drawn()), [f"a house {name} 0 0 0 +X+Y+Z 10 3 8"])
+        path.write_text("v 0 0 0\nv 2 0 0\nv 1 4 0\nf 1 2 3\n", encoding="utf-8")
+        self.page.until(2)
+        (line,) = self.page.drawn()
+        self.assertEqual(line.split()[2], list(self.page.head["meshes"])[0])
+        self.assertNotEqual(line.split()[2], name)
+        path.unlink()
+        self.page.until(3)
+        self.assertEqual(list(self.page.drawn()), ["a house cube 0 0 0 +X+Y+Z 10 3 8"])
+        self.assertEqual(self.page.head["said"], f"{self.script}:8: {path}: No such file or directory")
+
     def test_a_typo_leaves_the_town(self):
         self.begin(RULES + A + B)
         wrong = RULES.replace('h, 1r) I("cube")', 'h, 1r) I("cub")')

@@ -18,11 +18,12 @@ function floats_texture(unit, width, height, data) {
   return made;
 }
 
-// A corner with what bends it: 1 or -1 along X, 2 or -2 along Z.
-function corners_texture({corners}) {
-  const high = Math.ceil(corners.length / WIDE), data = new Float32Array(4 * WIDE * high);
+// A corner with what bends it: 1 or -1 along X, 2 or -2 along Z. Below all corners stand their tones, if the mesh has some.
+function corners_texture(mesh) {
+  const {corners, tones = []} = mesh, high = Math.ceil(corners.length / WIDE), rows = high + tone_rows(mesh), data = new Float32Array(4 * WIDE * rows);
   corners.forEach(([x, y, z, bent_x = 0, bent_z = 0], k) => data.set([x, y, z, 2 * bent_x + 4 * bent_z], 4 * k));
-  return floats_texture(CORNERS, WIDE, high, data);
+  put_tones(tones, data, 4 * WIDE * high);
+  return floats_texture(CORNERS, WIDE, rows, data);
 }
 
 // Makes all that a table is drawn from, with room for as many instances as it has.
@@ -74,7 +75,7 @@ function draw_solids(use) {
   for (const batch of town.batches.values()) {
     if (!batch.count) continue;
     send(batch);
-    use({copied: is_copied(batch) ? batch.mesh.corners.length : 0, instances: INSTANCES, corners: CORNERS});
+    use({copied: is_copied(batch) ? batch.mesh.corners.length : 0, instances: INSTANCES, corners: CORNERS, toned: tone_rows(batch.mesh)});
     const indices = 3 * batch.triangles;
     if (is_copied(batch)) gl.drawElements(gl.TRIANGLES, indices * batch.total, gl.UNSIGNED_INT, 0);
     else gl.drawElementsInstanced(gl.TRIANGLES, indices, gl.UNSIGNED_INT, 0, batch.total);

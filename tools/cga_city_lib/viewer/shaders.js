@@ -8,10 +8,10 @@ const PART = -1; // in place of a mesh's number of corners
 const INSTANCE = `
 layout(location = 0) in vec3 own_corner;
 uniform sampler2D colours, instances, corners;
-uniform int copied;
+uniform int copied, toned;
 uniform vec3 shift;
 uniform float own_symbol, grow;
-vec4 first, sizes, last, corner;
+vec4 first, sizes, last, corner, own_tone = vec4(0.);
 void load() {
   if (copied == ${PART}) {
     first = vec4(shift, own_symbol);
@@ -26,8 +26,13 @@ void load() {
   sizes = texelFetch(instances, place + ivec2(1, 0), 0);
   last = texelFetch(instances, place + ivec2(2, 0), 0);
   corner = texelFetch(corners, ivec2(at & ${WIDE - 1}, at / ${WIDE}), 0);
+  if (toned > 0) own_tone = texelFetch(corners, ivec2(at & ${WIDE - 1}, at / ${WIDE} + toned), 0);
 }
-vec4 tone() { int number = int(first.w); return number < 0 ? vec4(0.) : texelFetch(colours, ivec2(number & 255, number >> 8), 0); }
+vec4 tone() {
+  int number = int(first.w);
+  vec4 found = number < 0 ? vec4(0.) : texelFetch(colours, ivec2(number & 255, number >> 8), 0);
+  return found.a > 0. && own_tone.a > 0. ? own_tone : found;
+}
 vec3 along(int way, float far) {
   float signed_ = (way & 1) == 0 ? far : -far;
   return way < 2 ? vec3(signed_, 0., 0.) : way < 4 ? vec3(0., signed_, 0.) : vec3(0., 0., signed_);
