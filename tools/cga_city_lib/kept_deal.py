@@ -40,7 +40,7 @@ class Dealer:
 
     def as_jobs(self, lots: LotsNow, shares: Iterable[Share]) -> None:
         """Each job is one part."""
-        for own, ring, square, _ in shares:
+        for own, ring, square, *_ in shares:
             self.parts.add(self.job(square), [lots.names[at] for at in own], [lots.names[at] for at in ring])
 
     def job(self, square: Any) -> Job:
