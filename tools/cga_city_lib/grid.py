@@ -1,6 +1,7 @@
 """Boxes that come and go, and which of them touch another one: only what stands in the same squares of a grid is compared."""
 from collections import defaultdict
 from fractions import Fraction
+from functools import lru_cache
 from typing import Dict, List, Optional, Set, Tuple, Union
 
 from .apart import touch
@@ -10,14 +11,16 @@ Number = Union[int, Fraction]
 Box = Tuple[Number, ...]  # the least and the greatest number on each axis, X before Z before Y
 Square = Tuple[int, int]
 MOST_SQUARES = 64  # a box over more squares than that is compared with all others
+ONE = 2**6 * 3**2 * 5**6 * 7  # all numbers are told over it, so that most are whole
 
 
+@lru_cache(maxsize=1 << 16)
 def number(text: str) -> Number:
-    """A number as it is spelt, exactly."""
-    try:
-        return int(text)
-    except ValueError:
-        return Fraction(*parted(text))
+    """A number as it is spelt, exactly, over `ONE`."""
+    numerator, denominator = parted(text)
+    if ONE % denominator:
+        return Fraction(numerator * ONE, denominator)
+    return numerator * (ONE // denominator)
 
 
 class Grid:

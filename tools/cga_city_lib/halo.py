@@ -9,7 +9,7 @@ from .checking import across_jobs, over_all
 from .files import can_write, write
 from .printed import Printed, reading
 from .progress import counted
-from .steps import lot_steps, steps_by_lot
+from .steps import digest_of, sizes, steps_by_lot
 
 LARGEST = 4  # times the rings of the cut: lots that need more have their jobs put together
 
@@ -45,8 +45,9 @@ class Traced:
         head, *lines = self.printed.from_last(b"\n# trace ").partition(b"\n# stats ")[0].split(b"\n")
         if head != b"# trace %d" % len(lines):
             raise self.printed.broken("its steps aren't whole")
-        steps = steps_by_lot(lines)
-        return [lot_steps(steps[name.encode("latin-1")]) for name in self.names]
+        found = steps_by_lot(lines)
+        lots = [found[name.encode("latin-1")] for name in self.names]
+        return [(digest_of(steps), *sizes(steps)) for steps in lots]
 
 
 def traced(folder, plan):

@@ -1,9 +1,9 @@
 """What a kept region replies to lines, as one cga_live would: edits, and behind each what it changed; reports."""
-from collections import Counter
-from typing import Any, Iterator, List, Optional
+from typing import Any, Iterator, List, Optional, Union
 
 from .call import Refused
 from .journal import Journal
+from .kept_changes import Changes
 from .kept_region import KeptRegion
 from .kept_reports import Reports
 from .kept_sources import Edit
@@ -17,6 +17,7 @@ HEAD_EDITS = "rules put drop attr priority order".split()
 DRESSING = "asset dress undress".split()
 NOT_KEPT = {"city", "judge", "trace"}  # of a whole town
 OK = "# ok"
+Reply = Union[str, bytes]  # a line, or a text
 
 
 class Commands:
@@ -44,16 +45,16 @@ class Commands:
 
     # ---- lines
 
-    def replies(self, lines: Iterator[str]) -> Iterator[str]:
-        """The lines that are replied to all commands, as they come; an empty one says that a command was replied to."""
+    def replies(self, lines: Iterator[str]) -> Iterator[bytes]:
+        """What is replied to all commands, as they come; an empty text says that a command was replied to."""
         for line in lines:
             if not is_blank(line):
                 words = words_of(line) if len(line) <= LONGEST else []
                 block = [line, *until_end(lines)] if opens_block(words, True) else [line]
-                yield from self.replied(words, block)
-            yield ""
+                yield from map(as_bytes, self.replied(words, block))
+            yield b""
 
-    def replied(self, words: List[str], lines: List[str]) -> Iterator[str]:
+    def replied(self, words: List[str], lines: List[str]) -> Iterator[Reply]:
         head = words[0] if words else ""
         if len(lines) > 1 and not END_LINE.fullmatch(lines[-1]):
             yield "# refused OpenBlock"
@@ -68,14 +69,14 @@ class Commands:
 
     # ---- edits
 
-    def edited(self, head: str, words: List[str], lines: List[str]) -> Iterator[str]:
+    def edited(self, head: str, words: List[str], lines: List[str]) -> Iterator[Reply]:
         """The reply to an edit, and what it changed."""
         reply, changes = self.edit(head, words, lines)
         if reply == OK and self.journal:
             self.journal.write(lines)
         if reply != OK or not self.is_quiet:
             yield reply
-        yield from told(changes)
+        yield changes.text()
 
     def edit(self, head: str, words: List[str], lines: List[str]) -> Any:
         if words in (["undo"], ["redo"]):
@@ -85,7 +86,7 @@ class Commands:
         behind = {"lot": [f"unlot {name}" for name in words[1:2]], **dict.fromkeys(HEAD_EDITS, ["dump"])}
         reply, *more = self.rules.ask([*lines, *behind.get(head, [])])
         if reply != OK:
-            return reply, Counter()
+            return reply, Changes()
         if head == "lot":
             edit = self.region.sources.lot(lines[0])
             assert edit, lines[0]
@@ -104,7 +105,7 @@ class Commands:
         former, new = self.region.sources.head, dump[2:-1]
         if is_refused(dump):
             self.set_rules(former)
-            return dump[0], Counter()
+            return dump[0], Changes()
         reply, changes = self.done(Edit({}, new, tuple(lines)))
         self.set_rules(new if reply == OK else former)
         return reply, changes
@@ -120,14 +121,14 @@ class Commands:
             if job.live:
                 job.live.ask(lines)
         self.region.dressed += lines
-        return OK, Counter()
+        return OK, Changes()
 
     def turned(self, word: str) -> Any:
         """Back to what was there before the last edit, or forward again."""
         sources = self.region.sources
         edits: Any = sources.past if word == "undo" else sources.future
         if not edits:
-            return f"# refused No{word.capitalize()}", Counter()
+            return f"# refused No{word.capitalize()}", Changes()
         edit = edits.pop()
         back = sources.back(edit)
         reply, changes = self.region.edit(edit)
@@ -138,18 +139,12 @@ class Commands:
         return reply, changes
 
 
+def as_bytes(reply: Reply) -> bytes:
+    return reply if isinstance(reply, bytes) else reply.encode("latin-1") + b"\n"
+
+
 def until_end(lines: Iterator[str]) -> Iterator[str]:
     for line in lines:
         yield line
         if len(line) <= LONGEST and END_LINE.fullmatch(line):
             return
-
-
-def told(changes: "Counter[bytes]") -> Iterator[str]:
-    """What went and what came, as cga_live tells it."""
-    gone = [line.decode("latin-1") for line, number in changes.items() for _ in range(-number)]
-    come = [line.decode("latin-1") for line, number in changes.items() for _ in range(number)]
-    if gone or come:
-        yield f"# changed {len(gone)} {len(come)}"
-        yield from (f"- {line}" for line in gone)
-        yield from (f"+ {line}" for line in come)

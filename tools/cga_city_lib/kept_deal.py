@@ -5,6 +5,7 @@ from typing import Any, Dict, Iterable, List, Optional, Set
 from .agreement import Differing
 from .deal import Share, by_place, districts, singly, with_rings
 from .findings import Findings, Lots
+from .grid import ONE
 from .halo import LARGEST
 from .kept_parts import Job, Part, Parts, TooManyLots
 from .kept_sources import Lot, LotsNow
@@ -104,7 +105,7 @@ class Dealer:
 
     def job_at(self, lot: Lot) -> Job:
         """A new job, at the lot's corner."""
-        return self.job((int(lot.ground[0] // 1), int(lot.ground[2] // 1), 1))
+        return self.job((int(lot.ground[0] // ONE), int(lot.ground[2] // ONE), 1))
 
     def with_rings(self, name: str, lot: Optional[Lot]) -> Set[Part]:
         """The lot goes to the job of its place, and the rings of all jobs near follow."""

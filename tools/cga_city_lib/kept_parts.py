@@ -4,7 +4,7 @@ from collections import defaultdict
 from typing import Dict, Iterable, List, NamedTuple, Optional, Set, Tuple
 
 from .deal import ring_of
-from .grid import Box, Grid, Number
+from .grid import ONE, Box, Grid, Number
 from .kept_sources import Lot
 from .live_job import LiveJob
 from .program import MOST_LOTS
@@ -16,7 +16,7 @@ Square = Tuple[int, ...]
 def side_of(lots: Iterable[Lot]) -> int:
     """The side of squares that have a few lots each."""
     widths = sorted(lot.ground[1] - lot.ground[0] for lot in lots)
-    return 1 + int(2 * widths[len(widths) // 2]) if widths else 16
+    return 1 + int(2 * widths[len(widths) // 2]) if widths else 16 * ONE
 
 
 class TooManyLots(Exception):
@@ -38,7 +38,9 @@ class Job:
 
     def away(self, ground: Box) -> Number:
         """How far a corner lies from the square."""
-        return sum(max(low - at, 0, at - low - self.square[2]) for low, at in zip(self.square, (ground[0], ground[2])))
+        x, z, side = self.square
+        corners = ((x * ONE, ground[0]), (z * ONE, ground[2]))
+        return sum(max(low - at, 0, at - low - side * ONE) for low, at in corners)
 
 
 class Part:

@@ -1,19 +1,17 @@
 """A region that is kept: each job is a cga_live with its own lots and their neighbours, and an edit goes to those whom it
 concerns. What it changed of own lots is what it changed of the region, since the parts of the jobs agree behind each edit."""
-from collections import Counter
 from typing import Any, Callable, Dict, Iterable, Iterator, List, Sequence, Set, Tuple
 
 from .agreement import differing
 from .findings import Findings
 from .grid import number
+from .kept_changes import Changes
 from .kept_deal import Dealer
 from .kept_parts import Job, Part, Parts, TooManyLots
 from .kept_sources import Edit, LotsNow, Sources
 from .live_job import LiveJob, Step, city, first_step
 from .printed import asking
-from .told_boxes import Boxes, NotTold
-
-Changes = "Counter[bytes]"
+from .told_boxes import Asked, Boxes, NotTold
 
 
 class RefusedByJob(Exception):
@@ -53,7 +51,11 @@ class KeptRegion:
         for job in jobs:
             self.send(job, self.steps(job, ())[0])
         for job in jobs:
-            yield self.take(job)
+            found = Changes()
+            refusal = self.take(job, found)
+            if refusal:
+                raise RefusedByJob(refusal)
+            yield found
 
     def deal(self, asks: bool) -> None:
         """All lots in new jobs."""
@@ -66,7 +68,7 @@ class KeptRegion:
         """The lots as they are to be dealt where a rule asks, under the rules that are there, of which none does."""
         self.deal(True)
         self.parts.keep()
-        self.flush(self.parts.jobs)
+        self.finish(self.start(self.parts.jobs), Changes())
 
     def running(self) -> List[Job]:
         return [job for job in self.parts.jobs if job.live]
@@ -87,7 +89,7 @@ class KeptRegion:
         """The reply to an edit, and what it changed. A refused one leaves all as it was."""
         if not self.is_begun:
             self.sources.put(edit)
-            return "# ok", Counter()
+            return "# ok", Changes()
         back, was_checked = self.sources.back(edit), self.parts.is_checked
         if edit.head is not None and asking(edit.head) and not self.dealer.asks:
             self.deal_for_asks()
@@ -97,24 +99,28 @@ class KeptRegion:
         except (RefusedByJob, NotTold, TooManyLots) as fault:
             self.take_back(back)
             self.parts.is_checked = was_checked
-            return "# refused TooManyLots" if isinstance(fault, TooManyLots) else str(fault), Counter()
+            return "# refused TooManyLots" if isinstance(fault, TooManyLots) else str(fault), Changes()
         self.parts.keep()
         self.parts.jobs = [job for job in self.parts.jobs if job.parts]
         return "# ok", changes
 
     def changes(self, edit: Edit) -> Changes:
-        """Leads all jobs to the sources, behind which their parts agree."""
-        found: Changes = Counter()
+        """Leads all jobs to the sources, behind which their parts agree. While the jobs work, the parts are told of."""
+        found = Changes()
         if edit.head is None:
             parts = self.dealer.move(edit.lots)
-            self.last = {part.job for part in parts}
+            self.last = {part.job for part in parts} | self.parts.changed_jobs()
         else:
             self.last, parts = set(self.parts.jobs), self.all_parts()
-            found.update(self.flush(self.last, edit.lines))
-        if self.dealer.asks:
-            self.agree(parts)
+        sent = self.start(self.last, edit.lines)
+        try:
+            if self.dealer.asks:
+                self.agree(parts)
+        finally:
+            self.finish(sent, found)
         self.last |= self.parts.changed_jobs()
-        found.update(self.flush(self.last))
+        self.finish(self.start(self.last), found)
+        self.close_empty()
         return found
 
     def agree(self, parts: Iterable[Part]) -> None:
@@ -123,8 +129,7 @@ class KeptRegion:
         while True:
             self.parts.check_sizes()
             found = list(parts)
-            lines = ([self.sources.lots[name].line for name in part.own | part.ring] for part in found)
-            for part, told in zip(found, boxes.run(lines)):
+            for part, told in zip(found, boxes.run(map(self.asked, found))):
                 self.parts.tell(part, told)
             pairs = list(differing(self.parts)) if is_asking else []
             if not pairs:
@@ -132,11 +137,19 @@ class KeptRegion:
                 return
             parts = self.dealer.settle(pairs)
 
+    def asked(self, part: Part) -> Asked:
+        return Asked([self.sources.lots[name].line for name in part.own | part.ring], part.told)
+
     def teller(self) -> Boxes:
         if not self.boxes:
             self.boxes.append(Boxes(self.told_by(), bool(self.options.rings)))
         self.boxes[0].set_head(self.sources.head)
         return self.boxes[0]
+
+    def prepare(self) -> None:
+        """Processes that tell boxes wait for the next edit."""
+        if self.boxes and self.dealer.asks:
+            self.teller().prepare()
 
     def take_back(self, back: Edit) -> None:
         """All is as it was before the edit."""
@@ -149,41 +162,45 @@ class KeptRegion:
             else:
                 self.parts.drop(name)
         self.parts.take_back()
-        self.flush(jobs)
+        self.finish(self.start(jobs), Changes())
+        self.close_empty()
 
     # ---- jobs
 
-    def flush(self, jobs: Iterable[Job], lines: Sequence[str] = ()) -> Changes:
-        """Leads jobs to the lots and the head that they are to have. Gives what changed of own lots."""
-        found: Changes = Counter()
-        todo = [(job, self.steps(job, lines)) for job in jobs]
-        for turn in range(2):
-            sent = [(job, steps[turn]) for job, steps in todo if len(steps) > turn]
-            for job, step in sent:
-                self.send(job, step)
-            answers = [job.live.take() for job, _ in sent if job.live]
-            for answer in answers:
-                found.update(answer.changes)
-            refusal = next(filter(None, (answer.refusal() for answer in answers)), "")
-            if refusal:
-                raise RefusedByJob(refusal)
-        for job, _ in todo:
-            if not job.parts:
-                self.close(job)
-        return found
+    def start(self, jobs: Iterable[Job], lines: Sequence[str] = ()) -> List[Tuple[Job, List[Step]]]:
+        """Sends to jobs the first of the steps that lead them to the lots and the head that they are to have."""
+        todo = [(job, steps) for job, steps in ((job, self.steps(job, lines)) for job in jobs) if steps]
+        for job, steps in todo:
+            self.send(job, steps[0])
+        return todo
+
+    def finish(self, todo: List[Tuple[Job, List[Step]]], found: Changes) -> None:
+        """Takes the answers to first steps, and sends the second ones. Gives what changed of own lots."""
+        while todo:
+            refusals = {self.take(job, found) for job, _ in todo} - {""}
+            if refusals:
+                raise RefusedByJob(self.first(refusals))
+            todo = [(job, steps[1:]) for job, steps in todo if steps[1:]]
+            for job, steps in todo:
+                self.send(job, steps[0])
+
+    def first(self, refusals: Set[str]) -> str:
+        """The reply of one run: of several symbols without rules that of the first lot is told, before all else."""
+        symbols = (self.sources.lots[name].line.rsplit(" ", 1)[1] for name in self.sources.in_order())
+        told = (f"# refused NoSymbol {symbol}" for symbol in symbols) if len(refusals) > 1 else iter(())
+        return next((reply for reply in told if reply in refusals), min(refusals))
 
     def send(self, job: Job, step: Step) -> None:
         if job.live is None:
             job.live = LiveJob(self.begun(), self.sources.head, self.dressed)
         job.live.send(step)
 
-    def take(self, job: Job) -> Changes:
-        """What a job told that was just begun."""
+    def take(self, job: Job, found: Changes) -> str:
+        """Takes what a job told of its step; the reply where it is refused."""
         assert job.live
         answer = job.live.take()
-        if answer.refusal():
-            raise RefusedByJob(answer.refusal())
-        return answer.changes
+        found.take(job, answer)
+        return answer.refusal()
 
     def steps(self, job: Job, lines: Sequence[str]) -> List[Step]:
         """What leads a job from what it has to what it is to have. A lot that comes from another job or goes there is taken away
@@ -210,6 +227,11 @@ class KeptRegion:
         if job.live:
             job.live.close()
             job.live = None
+
+    def close_empty(self) -> None:
+        for job in self.last:
+            if not job.parts:
+                self.close(job)
 
     def close_jobs(self) -> None:
         for job in self.parts.jobs:

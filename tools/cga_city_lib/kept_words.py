@@ -11,7 +11,7 @@ from .findings import Findings
 from .files import alone
 from .jobs import SCRIPT, Program
 from .journal import Journal
-from .kept_commands import Commands, told
+from .kept_commands import Commands
 from .kept_parts import TooManyLots
 from .kept_region import KeptRegion, RefusedByJob
 from .kept_sources import Sources, lot_of
@@ -61,8 +61,11 @@ def keep(given: Any, plan: Any) -> None:
     try:
         commands.replay(journal)
         begin(region, given.changes)
-        for line in commands.replies(lines_in()):
-            say(line)
+        say(b"")
+        for text in commands.replies(lines_in()):
+            say(text)
+            if not text:
+                region.prepare()
     finally:
         commands.end()
         region.end()
@@ -84,9 +87,7 @@ def begin(region: KeptRegion, is_silent: bool) -> None:
     """Begins the jobs, and tells the instances of each."""
     try:
         for changes in region.begin():
-            for line in () if is_silent else told(changes):
-                say(line)
-        say("")
+            say(b"" if is_silent else changes.text())
     except (RefusedByJob, NotTold, TooManyLots) as fault:
         raise Refused(
             f"the region can't be kept ({str(fault)[2:] or 'a district has more lots than a run takes'}): cut it with fewer lots a "
@@ -101,9 +102,9 @@ def lines_in() -> Iterator[str]:
         yield text[:-1] if text.endswith("\r") else text
 
 
-def say(line: str) -> None:
-    """Writes a line; an empty one says that a reply is whole."""
-    if line:
-        sys.stdout.buffer.write(line.encode("latin-1") + b"\n")
+def say(text: bytes) -> None:
+    """Writes a text; an empty one says that a reply is whole."""
+    if text:
+        sys.stdout.buffer.write(text)
     else:
         sys.stdout.buffer.flush()

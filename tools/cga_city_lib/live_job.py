@@ -2,9 +2,8 @@
 one is begun in the state that was there, and what it was asked is asked again."""
 import os
 import subprocess
-from collections import Counter
 from itertools import islice
-from typing import Dict, List, NamedTuple, Sequence, Set
+from typing import Dict, List, NamedTuple, Optional, Sequence, Set
 
 from .call import Refused
 from .script import text_of
@@ -27,10 +26,11 @@ class Step(NamedTuple):
 
 
 class Answer(NamedTuple):
-    """The replies, and how often each instance came; one that went counts below 0."""
+    """The replies, and the lines of own lots' instances that went, and that came."""
 
     replies: List[str]
-    changes: "Counter[bytes]"
+    gone: List[bytes]
+    come: List[bytes]
 
     def refusal(self) -> str:
         return next((reply for reply in self.replies if reply.startswith("# refused ")), "")
@@ -58,6 +58,7 @@ class LiveJob:
         self.lots: Dict[str, str] = {}
         self.own: Set[str] = set()
         self.step = Step([], head, {}, set())
+        self.told: Optional[Set[bytes]] = None  # the lots of which lines are taken; None where no others come
         self.is_new = True
         self.begin()
 
@@ -73,6 +74,7 @@ class LiveJob:
 
     def send(self, step: Step) -> None:
         self.step = step
+        self.told = None if step.own >= step.lots.keys() | self.lots.keys() else {name.encode() for name in step.own}
         try:
             self.process.stdin.write(text_of([*step.lines, FENCE]))  # type: ignore[union-attr]
             self.process.stdin.flush()  # type: ignore[union-attr]
@@ -109,25 +111,28 @@ class LiveJob:
 
     def read(self) -> Answer:
         replies: List[str] = []
-        changes: "Counter[bytes]" = Counter()
+        gone: List[bytes] = []
+        come: List[bytes] = []
         for line in self.process.stdout:  # type: ignore[union-attr]
             if line == END:
-                return Answer(replies, changes)
+                return Answer(replies, gone, come)
             if line.startswith(b"# changed "):
-                gone, come = map(int, line.split()[2:4])
-                self.collect(changes, gone, -1)
-                self.collect(changes, come, 1)
+                went, came = map(int, line.split()[2:4])
+                gone += self.own_lines(went)
+                come += self.own_lines(came)
             else:
                 replies.append(line.decode("latin-1").rstrip("\n"))
         self.process.wait()
         raise Ended
 
-    def collect(self, changes: "Counter[bytes]", number: int, by: int) -> None:
-        """Counts the lines of own lots among so many."""
-        own = self.step.own
-        for line in islice(self.process.stdout, number):  # type: ignore[arg-type]
-            if line[2 : line.index(b" ", 2)].decode("latin-1") in own:
-                changes[line[2:-1]] += by
+    def own_lines(self, number: int) -> List[bytes]:
+        """Those of own lots among so many lines of instances."""
+        lines = list(islice(self.process.stdout, number))  # type: ignore[arg-type]
+        if len(lines) < number:
+            raise Ended
+        if self.told is None:
+            return lines
+        return [line for line in lines if line[2 : line.index(b" ", 2)] in self.told]
 
     def ask(self, lines: List[str]) -> List[str]:
         """The replies to lines that edit nothing."""

@@ -11,10 +11,15 @@ def steps_by_lot(lines: Iterable[bytes]) -> Dict[bytes, List[bytes]]:
     return steps
 
 
-def lot_steps(steps: Sequence[bytes]) -> Tuple[str, int, int]:
-    """The digest of a lot's steps, how many shapes it has, and how many of these are instances. Each shape but an instance has
-    one step, which tells how many children it has, or its fault."""
+def digest_of(steps: Sequence[bytes]) -> str:
+    """The digest of a lot's steps, in whatever order."""
     from hashlib import sha256  # it takes long to load, and a check without rings needs none
 
+    return sha256(b"\n".join(sorted(steps))).hexdigest()[:32]
+
+
+def sizes(steps: Sequence[bytes]) -> Tuple[int, int]:
+    """How many shapes a lot has, and how many of these are instances. Each shape but an instance has one step, which tells how
+    many children it has, or its fault."""
     shapes = 1 + sum(int(step) for step in (line.rsplit(b" ", 1)[1] for line in steps) if step.isdigit())
-    return sha256(b"\n".join(sorted(steps))).hexdigest()[:32], shapes, shapes - len(steps)
+    return shapes, shapes - len(steps)

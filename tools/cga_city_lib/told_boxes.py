@@ -4,13 +4,13 @@ read, so that one lot's edit doesn't wait for a start."""
 import os
 import subprocess
 from collections import deque
-from typing import Deque, Dict, Iterable, Iterator, List, NamedTuple, Sequence, Tuple
+from typing import Deque, Dict, Iterable, Iterator, List, NamedTuple, Optional, Sequence, Tuple
 
 from .call import Refused
 from .grid import Box, number
 from .script import text_of
 from .sources import frugal
-from .steps import lot_steps, steps_by_lot
+from .steps import digest_of, sizes, steps_by_lot
 
 Process = "subprocess.Popen[bytes]"
 TRIES = 3  # of a run whose process is killed
@@ -18,25 +18,39 @@ BEGINNING = ["version 2", "quiet", "city"]
 
 
 class Told(NamedTuple):
-    """Of a lot: its box, the digest of its steps, how many shapes it has, and how many of these are instances."""
+    """Of a lot: its box, the digest of its steps, how many shapes it has, and how many of these are instances. The line is that
+    of the box."""
 
     box: Box
-    digest: str
-    shapes: int
-    instances: int
+    digest: str = ""
+    shapes: int = 0
+    instances: int = 0
+    line: str = ""
 
 
 class NotTold(Exception):
     """The program refused the lots together, with the cause."""
 
 
-Lots = Sequence[str]  # lines, one for each lot
+class Asked(NamedTuple):
+    """The lines of some lots, and what was told of them before, if anything was."""
+
+    lots: Sequence[str]
+    before: Dict[str, Told]
 
 
-def box_of(words: Sequence[str]) -> Box:
-    """The box in the six numbers of a line, which tells its least corner first."""
-    x, y, z, x_end, y_end, z_end = map(number, words)
+def box_of(line: str) -> Box:
+    """The box in a line `# hull LOT ..`, which tells its least corner first."""
+    x, y, z, x_end, y_end, z_end = map(number, line.split(" ")[3:])
     return x, x_end, z, z_end, y, y_end
+
+
+def told_of(line: str, steps: Sequence[bytes], before: Optional[Told]) -> Told:
+    """What is told of a lot; where that is what was told before, this is it."""
+    digest = digest_of(steps) if steps else ""
+    if before and before.line == line and before.digest == digest:
+        return before
+    return Told(box_of(line), digest, *sizes(steps), line)
 
 
 class Boxes:
@@ -68,12 +82,12 @@ class Boxes:
         while self.waiting:
             end(self.waiting.popleft())
 
-    def run(self, parts: Iterable[Lots]) -> Iterator[Dict[str, Told]]:
+    def run(self, parts: Iterable[Asked]) -> Iterator[Dict[str, Told]]:
         """What is told of the lots of each part, by name. Some runs go on at once."""
-        running: Deque[Tuple[Process, Lots]] = deque()
+        running: Deque[Tuple[Process, Asked]] = deque()
         try:
-            for lots in parts:
-                running.append((self.fed(lots), lots))
+            for asked in parts:
+                running.append((self.fed(asked.lots), asked))
                 if len(running) >= self.workers:
                     yield self.read(*running.popleft())
             while running:
@@ -82,33 +96,33 @@ class Boxes:
             for process, _ in running:
                 end(process)
 
-    def fed(self, lots: Lots) -> Process:
+    def fed(self, lots: Sequence[str]) -> Process:
         process = self.waiting.popleft() if self.waiting else self.begin()
         put(process, text_of([*lots, "end", *["trace"] * self.has_steps]))
         close_end(process)
         return process
 
-    def read(self, process: Process, lots: Lots) -> Dict[str, Told]:
+    def read(self, process: Process, asked: Asked) -> Dict[str, Told]:
         for _ in range(TRIES):
             with process:
                 out = process.stdout.read()  # type: ignore[union-attr]
             if process.returncode == 0:
-                return self.told(out, len(lots))
-            process = self.fed(lots)
+                return self.told(out, asked)
+            process = self.fed(asked.lots)
         end(process)
         raise Refused(f"{self.program} ended with status {process.returncode} at the lots of one job")
 
-    def told(self, out: bytes, lots: int) -> Dict[str, Told]:
+    def told(self, out: bytes, asked: Asked) -> Dict[str, Told]:
         lines = out.split(b"\n")[:-1]
-        refused = next((line for line in lines if line.startswith(b"# refused ")), None)
-        if refused:
-            raise NotTold(refused.decode("latin-1"))
-        behind = len(lines) - lots
-        hulls = [line.decode("latin-1").split(" ")[2:] for line in lines[behind:] if line.startswith(b"# hull ")]
-        if len(hulls) != lots:
+        behind = len(lines) - len(asked.lots)
+        hulls = [line.decode("latin-1") for line in lines[behind:] if line.startswith(b"# hull ")]
+        if b"\n# refused " in out:
+            raise NotTold(next(line.decode("latin-1") for line in lines if line.startswith(b"# refused ")))
+        if len(hulls) != len(asked.lots):
             raise Refused(f"{self.program} tells no boxes: name one that does by --hulls")
-        traced = steps_by_lot(lines[2:behind]) if self.has_steps else {}
-        return {name: Told(box_of(words), *lot_steps(traced.get(name.encode(), []))) for name, *words in hulls}
+        steps = steps_by_lot(lines[2:behind]) if self.has_steps else {}
+        named = ((line.split(" ", 3)[2], line) for line in hulls)
+        return {name: told_of(line, steps.get(name.encode(), []), asked.before.get(name)) for name, line in named}
 
 
 def put(process: Process, data: bytes) -> None:

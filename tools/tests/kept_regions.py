@@ -58,6 +58,7 @@ RULES = [
     "put 1 8: tower -> nothing",
     "drop 8",
     "attr low = 3",
+    "rules\n1: shop -> NIL\nend",
     'put 2 3: facade -> Repeat("X", 2) { window }',
     f'put 2 3: facade{ASKS} -> Repeat("X", 2) {{ window }}',
 ]
