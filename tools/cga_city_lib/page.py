@@ -30,6 +30,8 @@ SCRIPTS = [
     "refine",
     "views",
     "panel",
+    "variants",
+    "lot",
     "scenes",
     "hands",
     "follow",

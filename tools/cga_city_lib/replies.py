@@ -30,6 +30,17 @@ def replies(lines):
         line = next(lines, None) if following is None else following
 
 
+def without_changes(lines):
+    """The lines of replies alone, where a program tells changes as well."""
+    lines = iter(lines)
+    for line in lines:
+        if line.startswith("# changed "):
+            for _ in islice(lines, sum(map(int, line.split()[2:4]))):
+                pass
+        else:
+            yield line
+
+
 def is_refused(reply):
     return reply[0].startswith("# refused ")
 

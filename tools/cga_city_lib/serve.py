@@ -5,6 +5,7 @@ from http.server import BaseHTTPRequestHandler, ThreadingHTTPServer
 
 from .call import Refused
 from .page import page
+from .pipe import Ended
 
 NAME = re.compile(r"[A-Za-z_]\w{0,31}", re.ASCII)
 VALUE = re.compile(r"-?\d{1,15}(\.\d{1,15}|/\d{1,15})?", re.ASCII)
@@ -34,9 +35,13 @@ def words_of(data):
     return told if isinstance(told, dict) and all(isinstance(value, str) for value in told.values()) else None
 
 
-def handler(shown, watch):
-    # each with what reads the words of its address, and what does them and says what is wrong
-    posts = {"/set": (values_of, watch.turn), "/write": (values_of, watch.write), "/keep": (words_of, watch.keep)}
+def handler(shown, watch, asks):
+    # each with what reads the words of its address, and what does them; what it gives is told
+    posts = {
+        "/set": (values_of, watch.turn),
+        "/write": (values_of, asks.write),
+        **{f"/{ask.__name__}": (words_of, ask) for ask in (asks.keep, asks.compare, asks.explain, asks.open)},
+    }
 
     class Handler(BaseHTTPRequestHandler):
         protocol_version = "HTTP/1.1"
@@ -64,8 +69,11 @@ def handler(shown, watch):
             told = read(self.rfile.read(int(size)))
             if told is None:
                 return self.answer(404, b"")
-            wrong = does(told) or ""
-            self.answer(409 if wrong else 200, wrong.encode(), "text/plain; charset=utf-8")
+            try:
+                given = does(told)
+            except (Refused, Ended) as fault:
+                return self.answer(409, str(fault).encode(), "text/plain; charset=utf-8")
+            self.answer(200, b"" if given is None else json.dumps(given).encode(), "application/json")
 
         def answer(self, status, body, kind="text/plain"):
             try:
@@ -89,11 +97,11 @@ class Server(ThreadingHTTPServer):
         pass  # a browser that goes away in the middle is no fault
 
 
-def server(port, shown, watch):
+def server(port, shown, watch, asks):
     """A server at that port, or at 8017 or else a free one."""
     for wanted in [port] if port is not None else [8017, 0]:
         try:
-            return Server(("127.0.0.1", wanted), handler(shown, watch))
+            return Server(("127.0.0.1", wanted), handler(shown, watch, asks))
         except OSError as fault:
             problem = fault.strerror
     raise Refused(f"port {port}: {problem}")

@@ -2,17 +2,18 @@
 import os
 import threading
 import time
-from pathlib import Path
+from itertools import chain
 
-from . import about, files, kept_views, own_meshes, panel_words
+from . import about, kept_views, own_meshes, panel_words, variants
 from .call import Refused
 from .pipe import Ended
 from .replies import is_refused
 from .report import Report
 from .saved_meshes import SavedMeshes
-from .script import lines_of, text_of
+from .script import lines_of
 from .script_words import ScriptWords
 
+KEPT = (kept_views, panel_words, variants)  # what a script's comments keep for its page
 GONE = "the file is gone; the town is that of its last save"
 EMPTY = "the file is empty, so there is no town"
 EACH = 0.02  # seconds between two looks at the file
@@ -28,32 +29,11 @@ class Watch:
         self.values, self.turns = {}, 0  # of the sliders beside the script's, and how often they were set
         self.away = None  # since when the file has been away
         self.took = 0  # thousandths of a second for the last change
-        self.words = ScriptWords()
+        self.words, self.lines = ScriptWords(), []
 
     def turn(self, values):
         self.wanted = {**self.wanted, **values}
         self.woken.set()
-
-    def keep(self, words):
-        """Writes a camera into the script; what is wrong with it, or nothing."""
-        name, place = words.get("camera", ""), words.get("words", "")
-        if not kept_views.CAMERA.fullmatch(f"# camera {name} {place}"):
-            return f"{name}: a name has letters, digits and underscores alone, and 32 of them at most"
-        return self.rewrite(lambda lines: kept_views.with_camera(lines, name, place))
-
-    def write(self, values):
-        """Writes values of attributes into the script; what is wrong, or nothing."""
-        return self.rewrite(lambda lines: panel_words.with_values(lines, values))
-
-    def rewrite(self, change):
-        """Changes the lines of the script's file; what is wrong, or nothing."""
-        try:
-            with open(self.path, "rb") as file:
-                lines = lines_of(file.read())
-            files.write(Path(os.path.realpath(self.path)), text_of(change(lines)))
-        except OSError as fault:
-            return f"{self.path}: {fault.strerror}"
-        return ""
 
     def run(self):
         while True:
@@ -110,7 +90,7 @@ class Watch:
             self.shown.put(said=str(fault), is_busy=False, is_stale=True)
 
     def show(self, lines):
-        self.saves += 1
+        self.saves, self.lines = self.saves + 1, lines
         found = self.words.commands(lines)
         answers, faults = self.timed(self.town.show, lines, found)
         is_wrong = any(map(is_refused, answers))
@@ -134,14 +114,15 @@ class Watch:
             yield from Report(self.path, lines, found, answers).lines_for(faults)
         elif not found:
             yield f"{self.path}: {EMPTY}"
-        for number, text in [*kept_views.unread(lines), *panel_words.unread(lines), *own_meshes.unread(lines)]:
+        for number, text in chain.from_iterable(kept.unread(lines) for kept in (*KEPT, own_meshes)):
             yield f"{self.path}:{number}: {text}"
         yield from self.meshes.faults
 
     @staticmethod
     def head(lines, found, answers):
         """What a page is told of a script that nothing is refused in."""
-        return {**about.head_of(lines, found, answers), **kept_views.head_of(lines), **panel_words.head_of(lines)}
+        kept = chain.from_iterable(kept.head_of(lines).items() for kept in KEPT)
+        return {**about.head_of(lines, found, answers), "bills": {}, **dict(kept)}
 
     def turned(self, values):
         refused, self.turns = self.timed(self.town.turn, values), self.turns + 1

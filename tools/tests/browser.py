@@ -3,6 +3,7 @@ import atexit
 import base64
 import os
 import sys
+from contextlib import contextmanager
 from pathlib import Path
 
 sys.path.insert(0, str(Path(__file__).resolve().parent.parent))
@@ -47,6 +48,21 @@ class Browser(browser.Browser):
             below |= more
             more = {one for one, (parent, _) in told.items() if parent in below} - below
         return sum(told[one][1] for one in below if one in told)
+
+    def new_tab(self):
+        """Another page of this browser, which `on` leads to."""
+        with self.on(None):
+            target = self.ask("Target.createTarget", url="about:blank")["targetId"]
+            return self.ask("Target.attachToTarget", targetId=target, flatten=True)["sessionId"]
+
+    @contextmanager
+    def on(self, tab):
+        """Asks another page meanwhile."""
+        self.page, was = tab, self.page
+        try:
+            yield self
+        finally:
+            self.page = was
 
     def mouse(self, kind, x, y, **more):
         self.ask("Input.dispatchMouseEvent", type=kind, x=x, y=y, **more)

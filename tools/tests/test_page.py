@@ -228,6 +228,14 @@ class InBrowser(unittest.TestCase):
             self.assertNotEqual(self.run_(seen[1]), seen[0], key)
         self.run_("onkeydown({key: 'i', target: canvas, preventDefault() {}})")
         self.assertIn("lot a", self.run_("box_of('picked').textContent"))
+        self.run_("(() => { head.cameras = {a: '105 1.6 220 0 0 55'}; })()")
+        self.browser.key("c")
+        self.assertEqual(self.run_("camera_words()"), "105 1.6 220 0 0 55")
+        moments = []
+        for key in "hhH":
+            self.browser.key(key)
+            moments.append(self.run_("place_of_sun.moment") / 36e5)
+        self.assertEqual([round(moment - moments[0], 6) for moment in moments], [0, 0.5, 0])
 
     def test_the_eye_stands_on_the_ground_before_the_houses(self):
         """Two rows with a way of 6 between them: the eye is 1.6 above the ground, between the rows, and looks along them."""
@@ -361,11 +369,11 @@ class InBrowser(unittest.TestCase):
                 seen = self.pixels([(left + a, top + b) for a in (-4, 4) for b in (-4, 4)])
                 self.assertGreater(len(set(map(tuple, seen))), 1, (key, x, y, z))
 
-    def test_what_comes_lights_up_and_what_goes_is_gone(self):
+    def a_wall_becomes_a_roof(self):
+        """Of one lot, at a moment that stands still; where the solid's middle is seen."""
         self.show_lines("a wall cube 0 0 0 +X+Y+Z 10 6 8")
         self.browser.key("1")
         place = self.place_of(5, 3, 8)
-        before = self.pixel(*place)
         shown = Shown("town")
         shown.put({b"a wall cube 0 0 0 +X+Y+Z 10 6 8": 1})
         stamp = f"{shown.run}.{shown.number}"
@@ -375,11 +383,26 @@ class InBrowser(unittest.TestCase):
             "(() => { const now = performance.now(); performance.now = () => now; head.save = 1;"
             f" take_answer(new Uint8Array({answer}).buffer); }})()"
         )
-        lit = self.pixel(*place)
-        self.run_("(() => { const later = performance.now() + 1500; performance.now = () => later; })()")
-        after = self.pixel(*place)
+        return place
+
+    def later(self, by, place):
+        """The pixel of a place when so many thousandths of a second are over."""
+        self.run_(f"(() => {{ const later = performance.now() + {by}; performance.now = () => later; }})()")
+        return self.pixel(*place)
+
+    def test_who_wants_no_motion_sees_no_fading(self):
+        motion = {"name": "prefers-reduced-motion", "value": "reduce"}
+        self.browser.ask("Emulation.setEmulatedMedia", features=[motion])
+        self.addCleanup(self.browser.ask, "Emulation.setEmulatedMedia", features=[])
+        place = self.a_wall_becomes_a_roof()
+        seen = [self.later(by, place) for by in (50, 700, 800)]
+        self.assertEqual(seen[0], seen[1])
+        self.assertNotEqual(seen[1], seen[2])
+
+    def test_what_comes_lights_up_and_what_goes_is_gone(self):
+        place = self.a_wall_becomes_a_roof()
+        lit, after = self.pixel(*place), self.later(1500, place)
         self.assertGreater(lit[0] - lit[2], after[0] - after[2])
-        self.assertNotEqual(before, after)
         self.assertEqual(self.run_("town.counts"), [0, 1])
 
 

@@ -64,7 +64,7 @@ class Page(State):
 
 
 class Preview(unittest.TestCase):
-    program = "live_stand_in"
+    program, words = "live_stand_in", ()
 
     def setUp(self):
         folder = tempfile.TemporaryDirectory()
@@ -79,7 +79,10 @@ class Preview(unittest.TestCase):
         with open(read, encoding="utf-8") as told:
             with open(write, "w") as out:
                 self.preview = begun(
-                    "preview", "--program", TESTS / self.program, "--port", "0", self.script, out=out, err=self.faults
+                    "preview",
+                    *("--program", TESTS / self.program, "--port", "0", *self.words, self.script),
+                    out=out,
+                    err=self.faults,
                 )
             self.addCleanup(self.end)
             self.page = Page(int(re.match(r"http://127\.0\.0\.1:(\d+)/ ", told.readline()).group(1)))
@@ -243,6 +246,50 @@ class Live(Preview):
         self.assertIn("attr h = 4.5\n", self.script.read_text(encoding="utf-8"))
         self.assertEqual(sorted(self.page.drawn()), ["a house cube 0 0 0 +X+Y+Z 10 4.5 8"])
 
+    def ask(self, name, **words):
+        """The status and what an address of the panel answers."""
+        return self.page.get(f"/{name}", body=json.dumps(words), origin=f"http://127.0.0.1:{self.page.port}")
+
+    def test_variants_are_kept_and_compared(self):
+        text = RULES + A + B + "# floor house=3\n# variant low h=3\n"
+        self.begin(text)
+        self.assertEqual(self.ask("keep", variant="high", words="h=9")[0], 200)
+        self.page.until(2)
+        self.assertEqual(self.script.read_text(encoding="utf-8"), text + "# variant high h=9\n")
+        self.assertEqual(self.page.head["variants"], {"low": {"h": "3"}, "high": {"h": "9"}})
+        self.assertEqual(self.ask("compare")[0], 200)
+        while len(self.page.head["bills"]) < 3:
+            self.page.follow()
+        row = lambda high: {
+            "rows": [["house", "2", str(20 * high), str(160 * high)]],
+            "floors": 160 * high / 3,
+        }  # noqa: E731
+        self.assertEqual(self.page.head["bills"], {"": row(3), "low": row(3), "high": row(9)})
+        self.then(text)
+        self.assertEqual(self.page.head["bills"], {})
+        self.then(RULES + A + "# variant wide h = 4\n")
+        self.assertIn("town.cga:8: a variant is kept as `# variant NAME ATTRIBUTE=VALUE ..`", self.page.head["said"])
+
+    def test_a_solid_tells_how_it_came(self):
+        self.begin(RULES + A)
+        status, told = self.ask("explain", lot="a", symbol="house", place="0 0 0 10 3 8")
+        self.assertEqual(status, 200)
+        (step,) = json.loads(told)["way"]
+        self.assertEqual([step[name] for name in ("path", "symbol", "rule", "line")], ["/", "house", "rule 1", 4])
+        status, said = self.ask("explain", lot="a", symbol="house", place="5 0 0 10 3 8")
+        self.assertEqual((status, said), (409, b"a: the script as it is now draws no `house` there"))
+
+    def test_the_editor_is_opened_at_a_line(self):
+        told = self.script.with_name("told")
+        self.words = ["--editor", f"cp '{{file}}' {told}.{{line}}"]
+        self.begin(RULES + A)
+        self.assertTrue(self.page.head["editor"])
+        self.assertEqual(self.ask("open", line="4")[0], 200)
+        end = time.monotonic() + PATIENCE
+        while not self.script.with_name("told.4").exists() and time.monotonic() < end:
+            time.sleep(0.01)
+        self.assertTrue(self.script.with_name("told.4").exists())
+
     def test_a_page_that_comes_later_gets_all(self):
         self.begin(RULES + A)
         self.then(RULES + A + B)
@@ -312,6 +359,8 @@ class Words(unittest.TestCase):
             (["--port", "70000", "x"], "`70000` isn't a whole number from 0 to 65,535"),
             ([], "SCRIPT is missing"),
             (["--what", "x"], "unrecognized arguments: --what"),
+            (["--editor", "vi", "x"], "--editor: it doesn't name the file: say a command with {file}"),
+            (["--editor", "vi '{file}", "x"], "a quote in it isn't closed"),
         ):
             status, _, said = called("preview", *words)
             self.assertEqual(status, 2)

@@ -4,6 +4,7 @@ import re
 import subprocess
 import sys
 import tempfile
+import time
 import unittest
 from pathlib import Path
 from urllib.request import Request, urlopen
@@ -12,6 +13,7 @@ TESTS = Path(__file__).resolve().parent
 sys.path.insert(0, str(TESTS))
 
 from browser import CHROMIUM, shared  # noqa: E402
+from preview_sessions import sessions  # noqa: E402
 
 LINES = """[...town.batches.values()].flatMap(({name, data, total}) => [...Array(total).keys()].map(slot => slot * FLOATS)
   .filter(at => data[at + SYMBOL] >= 0).map(at => [town.lots[data[at + LOT]], town.symbols[data[at + SYMBOL]], name,
@@ -33,7 +35,9 @@ class PreviewPage(unittest.TestCase):
 
     def begin(self, port):
         """The address of the preview that is begun."""
-        words = [TESTS.parent / "preview", "--program", TESTS / "live_stand_in", "--port", port, self.script]
+        editor = f"cp '{{file}}' '{self.script.with_name('at')}{{line}}'"
+        program = ["--program", TESTS / "live_stand_in", "--editor", editor]
+        words = [TESTS.parent / "preview", *program, "--port", port, self.script]
         self.preview = subprocess.Popen(words, stdout=subprocess.PIPE, text=True)
         return re.match(r"(http://127\.0\.0\.1:\d+/) ", self.preview.stdout.readline()).group(1)
 
@@ -81,6 +85,76 @@ class PreviewPage(unittest.TestCase):
         urlopen(Request(address + "set", **words)).close()
         self.browser.wait("box_of('slider_h').value === '4.5'")
         self.assertEqual(self.browser.run("box_of('slider_h').parentNode.className"), "turned")
+
+    def test_a_click_opens_the_lot_and_the_editor(self):
+        run = self.browser.run
+        self.browser.click(240, 160)
+        self.browser.wait("box_of('lot').querySelector('li') !== null")
+        told = run("box_of('lot').textContent")
+        for part in (
+            "a /0",
+            "house 10 x 0 x 8: rule 1",
+            "line 3",
+            "the tree of the lot",
+            "/0 cube 10 x 3 x 8 at (0, 0, 0), drawn",
+        ):
+            self.assertIn(part, told)
+        run("box_of('lot').querySelector('li button').click()")
+        end = time.monotonic() + 60
+        while not self.script.with_name("at3").exists() and time.monotonic() < end:
+            time.sleep(0.02)
+        self.assertTrue(self.script.with_name("at3").exists())
+
+    def test_variants_stand_side_by_side(self):
+        run = self.browser.run
+        self.save(SCRIPT + "# floor house=3\n# variant tall h=9\n")
+        run("[...document.querySelectorAll('.variants button')].find(one => one.textContent === 'compare').click()")
+        self.browser.wait("box_of('bills').querySelectorAll('th button').length === 2", 300)
+        rows = run(
+            "[...box_of('bills').querySelectorAll('tr')].map(row => [...row.children].map(one => one.textContent))"
+        )
+        areas = [["", "script", "tall"], ["h", "3", "9"], ["floor area", "80", "240"], ["solids", "1", "1"]]
+        self.assertEqual(rows, [*areas, ["house", "1 \u00b7 30", "1 \u00b7 90"]])
+        run("[...box_of('bills').querySelectorAll('th button')][1].click()")
+        self.browser.wait(f"({LINES})[0] === 'a house cube 0 0 0 10 9 8'")
+
+    def test_how_much_was_worked_is_the_largest_text_while_it_lights_up(self):
+        self.save(SCRIPT.replace("10 8", "10 7"))
+        sizes = self.browser.run(
+            "[...document.querySelectorAll('body *')].filter(one => one.offsetParent && one.innerText)"
+            ".map(one => [parseFloat(getComputedStyle(one).fontSize), one.id])"
+        )
+        self.assertEqual(max(sizes)[1], "worked")
+        self.assertRegex(self.browser.run("box_of('worked').textContent"), r"^\d+ of 2 shapes worked in [\d,]+ ms$")
+
+    def test_a_file_that_is_gone_is_told(self):
+        self.script.unlink()
+        self.browser.wait("canvas.className === 'stale'")
+        self.assertIn("the file is gone", self.browser.run("box_of('said').textContent"))
+        self.save(SCRIPT + "# again\n")
+        self.assertEqual(self.browser.run("[canvas.className, box_of('said').textContent]"), ["", ""])
+
+    def test_on_a_telephone_nothing_is_beside_the_window(self):
+        self.save(SCRIPT + "# camera a 1 1.6 30 0 -5 55\n# variant tall h=9\n")
+        size = {"width": 360, "height": 640, "deviceScaleFactor": 2, "mobile": True}
+        self.browser.ask("Emulation.setDeviceMetricsOverride", **size)
+        self.addCleanup(
+            self.browser.ask,
+            "Emulation.setDeviceMetricsOverride",
+            width=480,
+            height=320,
+            deviceScaleFactor=1,
+            mobile=False,
+        )
+        self.browser.wait("innerWidth === 360")
+        beside = self.browser.run(
+            "[...document.querySelectorAll('body *')].filter(one => one.offsetParent).filter(one => {"
+            " const {left, right} = one.getBoundingClientRect(); return left < -1 || right > 361; }).map(one => one.outerHTML.slice(0, 80))"
+        )
+        self.assertEqual(beside, [])
+
+    def test_a_page_holds_what_a_fresh_page_holds(self):
+        self.assertEqual(list(sessions(2)), [1, 2])
 
     def test_what_a_preview_that_is_begun_again_forgot_is_said(self):
         self.browser.run("(() => { const slider = box_of('slider_h'); slider.value = 5; slider.oninput(); })()")

@@ -9,7 +9,7 @@ from definition.told import city_of
 
 from ..call import Refused
 from ..program import run
-from ..replies import is_refused, replies
+from ..replies import is_refused, replies, without_changes
 from ..script import commands, is_open, is_version, text_of, without
 from ..standing import standing
 
@@ -66,7 +66,7 @@ def asked(program: str, lines: List[str]) -> tuple:
         raise Refused("no line `end` ends the last block of the script: tools/lint says which")
     head = [] if found and is_version(found[0].words) else ["version 2"]
     status, out = run(program, text_of([*head, *told, "dump", "trace"]))
-    got = list(replies(out))
+    got = list(replies(without_changes(out)))
     if status or len(got) != len(found) + len(head) + 2:
         raise Refused(f"no answer: the program ended with status {status}")
     printed, trace = got[-2:]

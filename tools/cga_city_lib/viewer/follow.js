@@ -14,9 +14,13 @@ function take(told, data, from) {
   canvas.className = head.is_stale ? 'stale' : '';
   tell(head.said || '');
   if (is_changed || told.colours) legend();
-  if (is_changed || told.rules) pick_again();
+  if (is_changed || told.rules) {
+    pick_again();
+    no_lot();
+  }
   if (told.sun !== undefined) set_sun(told.sun);
   sliders();
+  if (told.bills) bills();
   views();
   sums();
   if (is_changed && lights_up) tell_worked();

@@ -1,6 +1,6 @@
 'use strict';
 // What stands over the picture: a legend that hides, what is picked, sliders, sums, and what is refused.
-const NOTHING = {colours: {}, rules: {}, attributes: {}, values: {}, panel: {shapes: {}, groups: []}};
+const NOTHING = {colours: {}, rules: {}, attributes: {}, values: {}, panel: {shapes: {}, groups: []}, variants: {}, bills: {}};
 let picked = null, head = NOTHING;
 
 function notice(text) {
@@ -47,6 +47,7 @@ function pick(x, y) {
   const hit = town.low && met(x, y);
   picked = hit ? {name: hit.batch.name, slot: hit.slot, floats: floats_at(hit)} : null;
   pick_again();
+  ask_lot(hit);
 }
 
 // What an instance is, without the moment at which it came.
@@ -129,7 +130,7 @@ function rows_of_sliders() {
     heading.textContent = title;
     if (own.length) rows.push(...(title ? [heading] : []), ...own);
   }
-  if (rows.length) rows.push(button('write into the script', () => tell_server('write', changed_values()), 'each value that is not that of the script'));
+  if (rows.length) rows.push(button('write into the script', () => tell_server('write', changed_values()), 'each value that is not that of the script'), row_of_variants());
   return rows;
 }
 
@@ -139,7 +140,7 @@ const changed_values = () => Object.fromEntries(Object.entries(head.values).filt
 let sliders_for = '';
 const shown_values = new Map();
 function sliders() {
-  const said = JSON.stringify([head.attributes, head.save, head.panel]);
+  const said = JSON.stringify([head.attributes, head.save, head.panel, head.variants]);
   if (said !== sliders_for) {
     sliders_for = said;
     shown_values.clear();
