@@ -18,8 +18,13 @@ from collections import namedtuple
 from pathlib import Path
 
 TOP = Path(__file__).resolve().parent.parent
+sys.path.insert(0, str(TOP / "tools"))
+
+from cga_city_lib.rectangle import turned  # noqa: E402
+
 DISTRICTS, HULLS = TOP / "tools" / "districts", TOP / "crates" / "cga_hulls" / "out" / "cga_hulls"
 SHOPS = TOP / "tools" / "tests" / "districts" / "row_of_shops.cga"
+ANGLES = 90
 CONDITION = ' : Scope.occ("noparent") == "none"'
 
 Region = namedtuple("Region", "told lots form asks words steps")
@@ -50,6 +55,8 @@ REGIONS = {
         ["--rings", "2", "--lots", "1000"],
         ALL,
     ),
+    "turned": Region("4,000 lots that ask, at 90 angles", 4000, "turned", True, [], ALL),
+    "turned-edit": Region("one lot's edit there", 4000, "turned", True, [], ["cut", "jobs", "check"]),
     "million": Region("1,000,000 lots that ask", 1000000, "square", True, [], ["cut", "jobs"]),
 }
 
@@ -59,10 +66,19 @@ def places(region):
     if region.form == "wall":
         side = math.isqrt(region.lots)
         return ((at % side * 8, at // side * 10) for at in range(region.lots))
+    if region.form == "turned":
+        side = math.isqrt(ANGLES - 1) + 1  # each angle has a street of its own
+        return (turned_street(at % ANGLES, at // ANGLES, side) for at in range(region.lots))
     if region.form == "long":
         return ((at % 4 * 8, at // 4 * 25) for at in range(region.lots))
     groups = math.isqrt(region.lots * 25 // 160)  # of four, side by side
     return ((at // 4 % groups * 40 + at % 4 * 8, at // 4 // groups * 25) for at in range(region.lots))
+
+
+def turned_street(number, at, side):
+    """The corner of a lot of a street, in the frame of the street's angle: rows of four, with streets between them."""
+    x, z = turned((number % side * 200, number // side * 400), number)
+    return round(x) + at % 4 * 8, round(z) + at // 4 * 25
 
 
 def write_script(region, path, seeds=()):
@@ -74,7 +90,8 @@ def write_script(region, path, seeds=()):
     with path.open("w", encoding="latin-1") as file:
         file.write("\n".join(head) + "\n")
         for at, (x, z) in enumerate(places(region)):
-            file.write(f"lot s{at} {at % 1000 + (at in seeds)} {x} {z} 8 10 shop\n")
+            turn = f" turned {at % ANGLES}" if region.form == "turned" and at % ANGLES else ""
+            file.write(f"lot s{at} {at % 1000 + (at in seeds)} {x} {z} 8 10 shop{turn}\n")
 
 
 Spent = namedtuple("Spent", "seconds memory said")
@@ -119,7 +136,7 @@ def measured(region, script, folder, program, workers):
 def row(name, top, program, workers):
     region, script, folder = REGIONS[name], top / f"{name}.cga", top / name
     write_script(region, script)
-    if region.form == "edit":
+    if name.endswith("edit"):
         measured(region._replace(steps=ALL[:3]), script, folder, program, workers)
         write_script(region, script, seeds={region.lots // 2})
     spent, said = measured(region, script, folder, program, workers)
@@ -128,7 +145,7 @@ def row(name, top, program, workers):
     town = folder / "town.obj"
     size = f"{town.stat().st_size / 10 ** 6:,.0f} MB" if town.exists() else ""
     memory = max(spent[step].memory for step in spent if step != "jobs") / 1024
-    number = "1" if region.form == "edit" else said.split(" jobs")[0].split()[-1]
+    number = "1" if name.endswith("edit") else said.split(" jobs")[0].split()[-1]
     print(
         " | ".join(
             [

@@ -3,6 +3,7 @@ import math
 from typing import Iterable, List, Optional, Sequence, Tuple
 
 from .instances import Lots, Reals
+from .labels import box_along
 from .sheet import INK, Sheet, short
 
 Point = Tuple[float, float]
@@ -15,11 +16,23 @@ def words(x: float, y: float, text: str, more: str = "") -> str:
     return f'<text x="{short(x)}" y="{short(y)}" font-size="{SIZE}" stroke="#fff" stroke-width=".4" paint-order="stroke" {more}>{text}</text>'
 
 
-def dimension(sheet: Sheet, p: Point, q: Point, length: float) -> None:
-    """A line between two points with a stroke across at each end and its length beside its middle."""
+def laid(sheet: Sheet, p: Point, q: Point) -> Tuple[Point, Point, float, float]:
+    """Both ends on the sheet, from left to right, and the way from one to the other."""
     (x, y), (u, v) = sorted((sheet.place(p), sheet.place(q)))
     size = math.hypot(u - x, v - y) or 1.0
-    right, down = (u - x) / size, (v - y) / size
+    return (x, y), (u, v), (u - x) / size, (v - y) / size
+
+
+def text_box(sheet: Sheet, p: Point, q: Point, length: float) -> Tuple[float, float, float, float]:
+    """The box around the length that a dimension tells."""
+    (x, y), (u, v), right, down = laid(sheet, p, q)
+    up = 0.6 + SIZE / 2
+    return box_along((x + u) / 2 + up * down, (y + v) / 2 - up * right, f"{length:.2f}", SIZE, (right, down))
+
+
+def dimension(sheet: Sheet, p: Point, q: Point, length: float) -> None:
+    """A line between two points with a stroke across at each end and its length beside its middle."""
+    (x, y), (u, v), right, down = laid(sheet, p, q)
     sheet.add(f'<path d="M{short(x)},{short(y)} {short(u)},{short(v)}"/>')
     for a, b in ((x, y), (u, v)):
         s, t = TICK * (right - down) / 2, TICK * (right + down) / 2
@@ -67,9 +80,11 @@ def heights(sheet: Sheet, levels: Sequence[float], left: float) -> None:
     sheet.add("</g>")
 
 
-def roomy(box: Tuple[float, float, float, float], levels: Sequence[float]) -> Tuple[float, float, float, float]:
-    """The box of a drawing, with room at the left for heights."""
+def roomy(
+    box: Tuple[float, float, float, float], levels: Sequence[float], part: float = 0.12
+) -> Tuple[float, float, float, float]:
+    """The box of a drawing, with room at the left for heights: that part of its width."""
     if not levels:
         return box
-    room = max(6.0, 0.12 * (box[2] - box[0]))
+    room = max(6.0, part * (box[2] - box[0]))
     return box[0] - room, box[1], box[2], box[3]

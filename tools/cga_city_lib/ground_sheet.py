@@ -1,11 +1,12 @@
 """The ground of a map on a drawing: areas and streets below the town, borders of parcels above it, names beside these."""
 import math
-from typing import List, Sequence, Set, Tuple
+from typing import Iterator, List, Sequence, Set, Tuple
 
 from .colours import colour_of
 from .flat import Box, Point, cut_line, cut_ring
 from .ground_file import Ground, Way
 from .ground_solids import box_of
+from .labels import box_along
 from .sheet import Sheet, clean, short
 
 ORDER = ("wood", "park", "pavement", "water", "rail", "street")
@@ -35,7 +36,8 @@ def areas(sheet: Sheet, ground: Ground, box: Box) -> None:
             )
 
 
-def area_names(sheet: Sheet, ground: Ground) -> None:
+def area_names(sheet: Sheet, ground: Ground) -> Iterator[Box]:
+    """Each area's name in its middle; gives where it stands."""
     for area in ground.areas:
         ring = cut_ring(area.ring, sheet.box)
         xs, zs = zip(*ring) if len(ring) > 2 else ((), ())
@@ -45,6 +47,7 @@ def area_names(sheet: Sheet, ground: Ground) -> None:
                 f'<text x="{short(x)}" y="{short(y)}" font-size="{HEIGHT}" font-style="italic" fill="#444" '
                 f'text-anchor="middle">{clean(area.name)}</text>'
             )
+            yield box_along(x, y - HEIGHT / 3, area.name, HEIGHT, (1.0, 0.0))
 
 
 def band(sheet: Sheet, way: Way, lines: List[List[Point]], more: float, colour: str) -> None:
@@ -64,8 +67,8 @@ def ways(sheet: Sheet, ground: Ground, box: Box) -> None:
         band(sheet, way, lines, 0.0, "#f4f3ef" if way.kind == "street" else pale(way.kind))
 
 
-def way_names(sheet: Sheet, ground: Ground, box: Box) -> None:
-    """Each street's name along it, once."""
+def way_names(sheet: Sheet, ground: Ground, box: Box) -> Iterator[Box]:
+    """Each street's name along it, once; gives where it stands."""
     told: Set[str] = set()
     for way in ground.ways:
         lines = cut_line(way.line, box)
@@ -75,18 +78,23 @@ def way_names(sheet: Sheet, ground: Ground, box: Box) -> None:
         if length(sheet, line) < max(SHORTEST, 0.55 * HEIGHT * len(way.name)):
             continue
         told.add(way.name)
-        sheet.add(name_along(sheet, way, line))
+        yield name_along(sheet, way, line)
 
 
-def name_along(sheet: Sheet, way: Way, line: Sequence[Point]) -> str:
-    """The name at the middle of a line, along its piece there."""
+def name_along(sheet: Sheet, way: Way, line: Sequence[Point]) -> Box:
+    """Puts the name at the middle of a line, along its piece there."""
     p, q = middle_piece(sheet, line)
     (x, y), (u, v) = sorted((sheet.place(p), sheet.place(q)))
     size = min(HEIGHT, max(0.8, 0.6 * way.width * sheet.mm))
     where = (
         f"translate({short((x + u) / 2)} {short((y + v) / 2)}) rotate({short(math.degrees(math.atan2(v - y, u - x)))})"
     )
-    return f'<text transform="{where}" y="{short(size * 0.35)}" font-size="{short(size)}" fill="#444" text-anchor="middle">{clean(way.name)}</text>'
+    sheet.add(
+        f'<text transform="{where}" y="{short(size * 0.35)}" font-size="{short(size)}" fill="#444" text-anchor="middle">'
+        f"{clean(way.name)}</text>"
+    )
+    far = math.hypot(u - x, v - y) or 1.0
+    return box_along((x + u) / 2, (y + v) / 2, way.name, size, ((u - x) / far, (v - y) / far))
 
 
 def middle_piece(sheet: Sheet, line: Sequence[Point]) -> Tuple[Point, Point]:
@@ -102,16 +110,16 @@ def length(sheet: Sheet, line: Sequence[Point]) -> float:
     return sheet.mm * sum(((a[0] - b[0]) ** 2 + (a[1] - b[1]) ** 2) ** 0.5 for a, b in zip(line, line[1:]))
 
 
-def below(sheet: Sheet, ground: Ground) -> None:
-    """What lies under the town."""
+def below(sheet: Sheet, ground: Ground) -> List[Box]:
+    """Draws what lies under the town; gives where its names stand, on the sheet."""
     sheet.layer("ground")
     areas(sheet, ground, sheet.box)
     plots = "".join(path_of(sheet, [plot.ring, *plot.holes]) for plot in ground.plots)
     sheet.add(f'<path d="{plots}" fill="{PLOT}" fill-rule="evenodd"/>')
     ways(sheet, ground, sheet.box)
-    area_names(sheet, ground)
-    way_names(sheet, ground, sheet.box)
+    taken = [*area_names(sheet, ground), *way_names(sheet, ground, sheet.box)]
     sheet.add("</g>")
+    return taken
 
 
 def borders(sheet: Sheet, ground: Ground) -> None:

@@ -1,5 +1,5 @@
 """Names on a drawing that don't lie over each other: each at its place, or beside it, or smaller, else a number."""
-from typing import Iterator, List, Sequence, Tuple
+from typing import Iterator, List, Optional, Sequence, Tuple
 
 from .sheet import Sheet, clean, short
 
@@ -13,6 +13,13 @@ LAST = 1.8
 def box_of(x: float, y: float, text: str, size: float) -> Box:
     half = WIDE * size * len(text) / 2
     return x - half, y - 0.8 * size, x + half, y + 0.3 * size
+
+
+def box_along(x: float, y: float, text: str, size: float, way: Point) -> Box:
+    """The box around a text whose middle is there, and which goes along a way of length 1."""
+    half, high, (right, down) = WIDE * size * len(text) / 2, size / 2, (abs(way[0]), abs(way[1]))
+    wide, tall = right * half + down * high, down * half + right * high
+    return x - wide, y - tall, x + wide, y + tall
 
 
 def overlap(one: Box, other: Box) -> bool:
@@ -30,9 +37,9 @@ def tries(x: float, y: float, text: str) -> Iterator[Tuple[float, float, float]]
 class Labels:
     """Names in the millimetres of a sheet; `taken` is where nothing may stand."""
 
-    def __init__(self, sheet: Sheet):
+    def __init__(self, sheet: Sheet, taken: Sequence[Box] = ()):
         self.sheet = sheet
-        self.taken: List[Box] = []
+        self.taken: List[Box] = list(taken)
         self.numbered: List[Tuple[int, str]] = []
 
     def free(self, box: Box) -> bool:
@@ -65,9 +72,9 @@ class Labels:
         return "; ".join(f"({number}) {text}" for number, text in self.numbered)
 
 
-def put_names(sheet: Sheet, names: Sequence[Tuple[Point, str]]) -> Labels:
+def put_names(sheet: Sheet, names: Sequence[Tuple[Point, str]], labels: Optional[Labels] = None) -> Labels:
     """Puts names on the sheet, those of the least text first, since they find a place more easily."""
-    labels = Labels(sheet)
+    labels = labels or Labels(sheet)
     sheet.layer("names")
     for point, text in sorted(names, key=lambda name: (len(name[1]), name[0])):
         labels.put(point, text)

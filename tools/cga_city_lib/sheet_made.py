@@ -20,6 +20,7 @@ from .parcel_list import write_list
 from .pdf import write_pdf
 from .program import LAUNCHER, is_proved
 from .rules_file import Rules
+from .sheet_dimensions import by_drawing
 from .sheet_layout import PAPERS, places
 from .sheet_parts import HEADS, LINE, block, cells_of, legend, page, read_block, sums, table, text
 from .sheet_sums import Row, bills_of, carried, floors_of, rows_for
@@ -98,8 +99,9 @@ def views(word: Any, work: Work, where: Any) -> List[List[str]]:
     highest = max(work.rows, key=lambda row: row.height)
     usual = section_lines(work.ground.by_lot[highest.lot], box_of(work.ground, MARK))
     lines = [*word.section, *usual[len(word.section) :]]
-    style = Style(walls_of(word, work.lots), list(work.floors))
-    plan, labels = plan_view(work.lots, work.ground, lines, where["plan"])
+    pairs = by_drawing(word.dimension)
+    style = Style(walls_of(word, work.lots), list(work.floors), pairs)
+    plan, labels = plan_view(work.lots, work.ground, lines, where["plan"], pairs["plan"])
     some = [
         plan,
         *(

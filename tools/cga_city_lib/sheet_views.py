@@ -3,6 +3,7 @@ import base64
 import math
 from typing import Dict, List, NamedTuple, Optional, Sequence, Tuple
 
+from . import sheet_dimensions
 from .dimensions import heights, levels_of, roomy
 from .drawing import Drawing, boxes_of, drawn, elevation, plan, section
 from .flat import Box, cut_line
@@ -17,6 +18,7 @@ from .sheet import short
 from .sheet_parts import text
 
 ACROSS, ALONG, BEHIND = 55.0, 60.0, 45.0  # metres of a section to either side of its middle, and what is seen behind it
+LONG = 0.07  # of an elevation's width, for its heights
 DOTS = 8  # of a perspective for each millimetre
 Line = Tuple[Point, Point]
 
@@ -68,16 +70,20 @@ def names_of(town: Lots, ground: Ground) -> List[Tuple[Point, str]]:
     return [(((a + c) / 2, (b + d) / 2), ground.name_of(lot)) for lot, (a, b, c, d) in boxes_of(town).items()]
 
 
-def plan_view(town: Lots, ground: Ground, lines: Sequence[Line], place: Place) -> Tuple[View, Labels]:
+def plan_view(
+    town: Lots, ground: Ground, lines: Sequence[Line], place: Place, pairs: Sequence[Line]
+) -> Tuple[View, Labels]:
     drawing = drawn(town, plan(None))
     frame = Frame(place, drawing.box([outer(ground)]), "Plan", "plan")
-    below(frame, ground)
+    taken = below(frame, ground)
     drawing.on(frame)
     borders(frame, ground)
     fronts(frame, ground)
     for line, name in zip(lines, "AB"):
         frame.mark(*line, names=(name, name))
-    labels = put_names(frame, names_of(town, ground))
+    labels = Labels(frame, taken)
+    sheet_dimensions.of_plan(frame, ground, pairs, labels)
+    put_names(frame, names_of(town, ground), labels)
     frame.caption()
     scale_bar(frame)
     north(frame)
@@ -106,13 +112,15 @@ def north(frame: Frame) -> None:
 
 
 class Style(NamedTuple):
-    """How sections are drawn: the thickness of each symbol's walls, and the symbols that have heights."""
+    """How sections are drawn: the thickness of each symbol's walls, the symbols that have heights, and chosen lines."""
 
     walls: Dict[str, float]
     floors: Sequence[str]
+    pairs: Dict[str, List[Line]]
 
 
 def upright(frame: Frame, drawing: Drawing, levels: Sequence[float]) -> View:
+    """The drawing with its heights and its caption."""
     drawing.on(frame)
     if levels:
         heights(frame, levels, drawing.box()[0] - 1)
@@ -126,13 +134,17 @@ def section_view(town: Lots, line: Line, letter: str, place: Place, style: Style
     if drawing.is_empty():
         return None
     levels = levels_of(town, style.floors, lots)
-    frame = Frame(place, roomy(drawing.box(), levels), f"Section {letter}\u2013{letter}", f"section.{letter}")
+    name, box = f"section.{letter}", sheet_dimensions.with_room(roomy(drawing.box(), levels))
+    frame = Frame(place, box, f"Section {letter}\u2013{letter}", name)
+    begin = drawing.look.view((line[0][0], 0, line[0][1]))[0]
+    sheet_dimensions.of_section(frame, drawing, begin, style.pairs[name])
     return upright(frame, drawing, levels)
 
 
 def elevation_view(town: Lots, side: str, told: str, place: Place) -> View:
-    drawing = drawn(town, elevation(side))
-    return upright(Frame(place, drawing.box(), f"Elevation from the {told}", f"elevation.{told}"), drawing, [])
+    drawing, levels = drawn(town, elevation(side)), levels_of(town, [])
+    box = roomy(drawing.box(), levels, LONG)
+    return upright(Frame(place, box, f"Elevation from the {told}", f"elevation.{told}"), drawing, levels)
 
 
 def perspective_view(town: Town, title: str, place: Place) -> View:

@@ -1,4 +1,5 @@
 """The sheet of a map: its table, its drawings at scale, its sums, and what is refused. Expected numbers are by hand."""
+import math
 import re
 import unittest
 from unittest import mock
@@ -120,6 +121,30 @@ class Drawings(Sheets):
         wide, high = (max(axis) - min(axis) for axis in zip(*numbers))
         self.assertAlmostEqual(wide, 20000 / scale, places=1)
         self.assertAlmostEqual(high, 10000 / scale, places=1)
+
+    def lengths(self, layer, scale):
+        """The told lengths of a layer, beside those that are drawn, in metres."""
+        paths = [
+            one.get("d") for one in layer.iter(f"{SVG}path") if " " in one.get("d") and one.get("stroke-width") is None
+        ]
+        ends = [[tuple(map(float, pair.split(","))) for pair in path[1:].split()] for path in paths]
+        drawn = [math.dist(*pair) * scale / 1000 for pair in ends]
+        return list(zip([float(one.text) for one in layer.iter(f"{SVG}text")], drawn))
+
+    def scale(self, part):
+        told = next("".join(one.itertext()) for one in part.iter(f"{SVG}text") if "1:" in "".join(one.itertext()))
+        return int(re.search(r"1:([\d,]+)", told).group(1).replace(",", ""))
+
+    def test_dimensions_are_drawn_at_scale(self):
+        # both fronts are 20 m long; a section along both cuts two cubes that touch, 40 m in all
+        _, parts = self.parts("--dimension=-20,-10,20,20", "--dimension=A:0,0,30,3", "--section=-25,0,25,0")
+        found = self.lengths(parts["plan.dimensions"], self.scale(parts["plan"]))
+        self.assertEqual(sorted(told for told, _ in found), [20, 20, 50])
+        cut = self.lengths(parts["section.A.dimensions"], self.scale(parts["section.A"]))
+        self.assertEqual(sorted(told for told, _ in cut), [30.15, 40])
+        for told, drawn in found + cut:
+            self.assertAlmostEqual(told, drawn, delta=0.02)
+        self.assertEqual(self.made("--dimension=C:0,0,1,1")[0], 2)
 
     def test_a_section_where_it_is_said(self):
         _, parts = self.parts("--section=-20,-15,45,-15", "--section=10,0,10,-30")
