@@ -23,6 +23,7 @@ TOOLS = LAUNCHER.parent / "tools"
 MAKERS = {
     ".merged.obj": (TOOLS / "merge", False),
     ".glb": (TOOLS / "glb", False),
+    ".usda": (TOOLS / "usda", False),
     ".png": (TOOLS / "picture", False),
     ".html": (TOOLS / "view", False),
     ".json": (TOOLS / "places", False),

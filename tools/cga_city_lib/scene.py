@@ -6,43 +6,22 @@ instance is a node of its own, of core glTF, or one entry of EXT_mesh_gpu_instan
 import math
 from array import array
 from operator import sub
-from typing import Any, Callable, Dict, Iterable, List, Mapping, NamedTuple, Optional, Sequence, Tuple
+from typing import Any, Callable, Dict, Iterable, List, Mapping, Optional, Sequence, Tuple
 
 from .corners import Corners, Pattern, pattern_of
-from .forms import FACES_FROM_0, Form
+from .forms import Form
 from .glb import INSTANCING, Glb
 from .instances import Instance, Reals
 from .materials import Materials
 from .own_corners import corners_of, moved
 from .own_mesh import OwnMesh, placed
-from .places import Stand, quaternion, stand_of
+from .places import Stand, stand_of
 from .setting import Setting
-from .solids import corners
-
-FINEST = 1e-6  # the least share of a hip's length that its slope takes
-OWN = "own"  # the kind of an instance of a mesh of one's own
-Point = Tuple[float, float, float]
-
-
-class Unit(NamedTuple):
-    """A form as an instance of a mesh in the unit box: the mesh's kind, ridge and share of slope, a quaternion, three sizes."""
-
-    mesh: Tuple[str, str, float]
-    turn: Tuple[float, ...]
-    scale: Point
-
-
-class Found(NamedTuple):
-    """An instance: its id, what it is, and its corner."""
-
-    name: str
-    unit: Unit
-    corner: Point
+from .units import OWN, Found, Point, Units, unit_solid
 
 
 class Scene:
-    """`is_instance` says of a symbol whether each of its solids is an instance of a mesh in the unit box; `meshes` has those of
-    one's own, by symbol, whose solids always are."""
+    """`is_instance` and `meshes` say which solids are instances, as Units does."""
 
     def __init__(
         self,
@@ -52,14 +31,14 @@ class Scene:
         meshes: Optional[Mapping[str, OwnMesh]] = None,
         is_packed: bool = False,
     ) -> None:
-        self.names, self.is_instance, self.metres = names, is_instance, float(setting.metres)
-        self.meshes, self.is_packed, self.extras = meshes or {}, is_packed, {}  # type: ignore[var-annotated]
+        self.names, self.metres, self.is_packed = names, float(setting.metres), is_packed
+        self.meshes, self.extras = meshes or {}, {}  # type: ignore[var-annotated]
+        self.units = Units(is_instance, self.meshes)
         self.offset, self.reals = tuple(map(float, setting.offset)), Reals()
         self.glb = Glb()
         self.materials = Materials(self.glb)
         self.numbers: Dict[Tuple[Any, ...], int] = {}  # of the meshes that instances share
         self.patterns: Dict[Form, Pattern] = {}
-        self.units: Dict[Tuple[Form, Optional[int]], Unit] = {}
 
     def file(self, lots: Iterable[Tuple[str, List[Instance]]]) -> bytes:
         """The bytes of the file of these lots, as pairs of a name and instances."""
@@ -75,8 +54,8 @@ class Scene:
         once: Dict[Tuple[Any, ...], Corners] = {}
         instances: Dict[Tuple[Any, ...], List[Found]] = {}
         for number, solid in enumerate(solids):
-            unit = self.unit_of(name, number, solid)
-            if unit and all(unit.scale):
+            unit = self.units.of(name, number, solid)
+            if unit:
                 found = Found(self.names[name][number], unit, self.corner(solid.corner))
                 instances.setdefault((solid.symbol, *unit.mesh), []).append(found)
             elif solid.symbol in self.meshes:
@@ -122,20 +101,6 @@ class Scene:
             else:
                 once[solid.symbol, number] = found
 
-    def unit_of(self, lot: str, number: int, solid: Instance) -> Optional[Unit]:
-        """What a solid is as an instance, if it is one."""
-        symbol, form, _ = solid
-        own = self.meshes.get(symbol)
-        if own is None and not self.is_instance(symbol):
-            return None
-        key = form, own and id(own)
-        if key not in self.units:
-            found = stand_of(lot, number, form)
-            mesh = (OWN, "", 1.0) if own else (found.kind, found.ridge, slope_of(found))
-            scale = own_scale(own, found) if own else scale_of(found)
-            self.units[key] = Unit(mesh, quaternion(found.axes), scale)
-        return self.units[key]
-
     # ---- instances
 
     def kind(self, lot: str, kind: Tuple[Any, ...], found: List[Found], low: Point) -> int:
@@ -178,34 +143,11 @@ class Scene:
         return self.numbers[key]
 
     def solid_part(self, symbol: str, kind: str, ridge: str, slope: float) -> Dict[str, Any]:
-        size = (slope, 1, 1) if ridge == "z" else (1, 1, slope)
-        points = [tuple(part / whole for part, whole in zip(corner, size)) for corner in corners(kind, ridge, size)]
         found = Corners()
-        found.add(Pattern(FACES_FROM_0[kind, ridge], points))  # type: ignore[arg-type]
+        found.add(Pattern(*unit_solid(kind, ridge, slope)))
         return found.primitive(self.glb, self.material(symbol))
 
     def own_parts(self, symbol: str) -> List[Dict[str, Any]]:
         parts = self.meshes[symbol].parts
         found = [(number, corners_of(part, part.corners)) for number, part in enumerate(parts)]
         return [made.primitive(self.glb, self.material(symbol, number)) for number, made in found if made.number]
-
-
-def scale_of(found: Stand) -> Point:
-    """The three sizes by which the mesh is scaled: a quad's mesh has no depth, so that 1 leaves it as it is. A solid with a
-    size of 0 is no instance, since its matrix couldn't be inverted."""
-    wide, high, deep = map(float, found.size)
-    return wide, high, 1.0 if found.kind == "quad" else deep
-
-
-def own_scale(mesh: OwnMesh, found: Stand) -> Point:
-    """The same of a mesh of one's own: along an axis in which it is flat, no size changes it."""
-    x, y, z = (1.0 if is_flat else float(size) for is_flat, size in zip(mesh.is_flat, found.size))
-    return x, y, z
-
-
-def slope_of(found: Stand) -> float:
-    """How wide a hip with a ridge is in parts of its length; 1 for all other solids, whatever their sizes."""
-    if found.kind != "hip" or not found.ridge:
-        return 1
-    w, _, d = map(float, found.size)
-    return max(FINEST, round(w / d if found.ridge == "z" else d / w, 6)) if max(w, d) > 0 else 1

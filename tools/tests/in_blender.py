@@ -1,20 +1,23 @@
 #!/usr/bin/env python3
-"""The add-on and the placing of meshes inside Blender, where that is installed; the gate runs it, and the quick tests don't.
+"""The add-on, the placing of meshes and glTF files inside Blender, where that is installed; the gate runs it, and the quick tests
+don't.
 
 usage: tools/tests/in_blender.py
 """
+import os
 import shutil
 import subprocess
 import sys
 import tempfile
 from pathlib import Path
 
+import own_window
 import solid_table
 from in_process import called
 
 TESTS = Path(__file__).resolve().parent
 TOOLS = TESTS.parent
-TOLD = ["the places are taken", "the add-on follows"]
+TOLD = ["the places are taken", "the add-on follows", "the glTF file is taken"]
 UPRIGHT = [(1, 0, 0), (0, 1, 0), (0, 0, 1)]
 TOWN = solid_table.text(
     [
@@ -40,8 +43,11 @@ f 4 5 6
 
 def blender(*words):
     """Whether a run of Blender told all that the steps tell; else what it said is shown."""
-    words = [shutil.which("blender"), "--background", "--factory-startup", "--python-exit-code", "1", *words]
-    done = subprocess.run(words, stdout=subprocess.PIPE, stderr=subprocess.STDOUT, text=True)
+    path = shutil.which("blender")
+    words = [path, "--background", "--factory-startup", "--python-exit-code", "1", *words]
+    # Blender's Python has the modules of the first python3 on the PATH: they have to be those of its own folder
+    env = {**os.environ, "PATH": f"{os.path.dirname(path)}:{os.environ['PATH']}"}
+    done = subprocess.run(words, stdout=subprocess.PIPE, stderr=subprocess.STDOUT, text=True, env=env)
     is_well = done.returncode == 0 and all(told in done.stdout for told in TOLD)
     print("; ".join(TOLD) if is_well else done.stdout)
     return is_well
@@ -55,7 +61,13 @@ def steps(folder):
         status, _, said = called(tool, folder / "town.obj", folder / target)
         if status:
             sys.exit(said)
-    scripts = [TOOLS / "blender/place.py", TESTS / "blender_places.py", TESTS / "blender_steps.py"]
+    (folder / "own").mkdir()
+    own_window.put(folder / "own")
+    words = (folder / "own/town.obj", folder / "town.glb", "--mesh", f"window={folder / 'own/window.obj'}")
+    status, _, said = called("glb", *words)
+    if status:
+        sys.exit(said)
+    scripts = [TOOLS / "blender/place.py", *(TESTS / f"blender_{name}.py" for name in ("places", "steps", "glb"))]
     return blender(
         *(word for script in scripts for word in ("--python", script)),
         "--",

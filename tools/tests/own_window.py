@@ -13,14 +13,6 @@ TOWN = solid_table.text(
         ("a", "wall", "quad", (0, 0, 0), UPRIGHT, (1, 1, 0)),
     ]
 )
-# the same town by a rule: a lot of 8 by 10, whose shape is turned by Ry(90) at its far corner
-SCRIPT = """rules
-1: lot -> [ T(0, 0, 10) S(10, 6, 8) Ry(90) window ] S(1r, 1, 1r) wall
-2: window -> I("cube")
-3: wall -> I("quad")
-end
-lot a 1 2 -7 8 10 lot
-"""
 OBJ = """mtllib window.mtl
 o window
 v 0 0 0

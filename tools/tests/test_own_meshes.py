@@ -3,6 +3,8 @@ import base64
 import json
 import math
 import re
+import shutil
+import subprocess
 import sys
 import tempfile
 import unittest
@@ -20,11 +22,17 @@ from browser import CHROMIUM  # noqa: E402
 from glb_reader import Reader  # noqa: E402
 from in_process import called  # noqa: E402
 from test_picture import unpacked  # noqa: E402
+from usda_reader import Reader as UsdaReader  # noqa: E402
 from cga_city_lib.colours import MATERIALS  # noqa: E402
 from cga_city_lib.glb import INDICES, VERTICES, Glb  # noqa: E402
+from cga_city_lib.obj import read_town  # noqa: E402
 from cga_city_lib.own_mesh_glb import read_glb  # noqa: E402
 from cga_city_lib.own_mesh_obj import read_obj  # noqa: E402
 from cga_city_lib.png import png  # noqa: E402
+
+ASSIMP = shutil.which("assimp")
+if not ASSIMP:
+    print("SKIPPED: glTF isn't read by assimp, since that isn't there (apt-get install assimp-utils)", file=sys.stderr)
 
 
 class Files(unittest.TestCase):
@@ -167,6 +175,18 @@ class InGlb(Files):
         }
         self.assertEqual(kinds, {5123})
 
+    @unittest.skipUnless(ASSIMP, "assimp isn't there")
+    def test_assimp_has_it_where_it_stands(self):
+        self.glb("--mesh", "window=window.obj")
+        words = [ASSIMP, "dump", self.folder / "town.glb", self.folder / "out.assxml"]
+        subprocess.run(words, stdout=subprocess.DEVNULL, stderr=subprocess.DEVNULL, check=True)
+        text = (self.folder / "out.assxml").read_text(encoding="utf-8", errors="replace")
+        matrices = dict(re.findall(r'<Node name="([^"]*)">\s*<Matrix4>([^<]*)', text))
+        found = [round(float(word), 4) + 0.0 for word in matrices["a#0"].split()]
+        # X, Y and Z of the box point along -Z, Y and X of the world; the lot's node is moved to its low corner, (0, 0, -7)
+        self.assertEqual(found, [0, 0, 8, 2, 0, 6, 0, 1, -10, 0, 0, 10, 0, 0, 0, 1])
+        self.assertEqual([float(word) for word in matrices["a"].split()[3::4]], [0, 0, -7, 1])
+
     def test_a_solid_without_depth_has_the_mesh_pressed_flat(self):
         """The quad's box has no depth: all corners of the window lie in the plane of the wall, in the lot's own mesh."""
         reader = self.glb("--mesh", "wall=window.obj")
@@ -231,6 +251,57 @@ class OnPage(Files):
         for some, other in zip(found, wanted):
             for one, two in zip(some, other):
                 self.assertLess(math.dist(one, [a + b for a, b in zip(two, (2, 1, 3))]), 1e-3)
+
+
+class InUsda(Files):
+    def usda(self, *words, town="town.obj"):
+        status, said, fault = called("usda", *words, town, "town.usda", folder=self.folder)
+        self.assertEqual((status, fault), (0, ""))
+        return UsdaReader((self.folder / "town.usda").read_text(encoding="utf-8"))
+
+    def test_corners_come_to_known_places(self):
+        reader = self.usda("--mesh", "window=window.obj")
+        self.assertEqual(reader.head, {"defaultPrim": '"town"', "metersPerUnit": 1, "upAxis": '"Y"'})
+        found = {name: rounded(corners) for name, corners in reader.world()}
+        self.assertEqual(found.pop("wall"), [(0, 0, 0), (1, 0, 0), (1, 1, 0), (0, 1, 0)])
+        self.assertEqual({name.split("_")[1]: corners for name, corners in found.items()}, own_window.STANDS)
+        (pane,) = [name for name in found if "pane" in name]
+        shader = reader.at(f"town/materials/{pane}/surface").values
+        self.assertEqual((shader["info:id"], shader["inputs:opacity"]), ('"UsdPreviewSurface"', 0.25))
+        for part in shader["inputs:diffuseColor"]:
+            self.assertAlmostEqual(part, own_window.HALF)
+        window = reader.at("town/instances/window").values
+        self.assertEqual(window["primvars:id"], ['"a#0"'])
+
+    def test_solids_stand_where_they_were_printed_in_feet_and_far_out(self):
+        """Each kind of solid, at an angle: the corners are those of the OBJ text, from the offset on."""
+        axes = [(0.8, 0, -0.6), (0, 1, 0), (0.6, 0, 0.8)]
+        solids = [
+            (lot, f'{kind} of\n"{lot}"' if lot == "1" else kind, kind, (20000 + 12 * at, 1, 5), axes, (10, 6, 8))
+            for lot in ("a", "1")
+            for at, kind in enumerate(solid_table.SOLIDS)
+        ]
+        self.write("solids.obj", solid_table.text(solids))
+        town = read_town(self.folder / "solids.obj")
+        for words in ((), ("--instances",)):
+            reader = self.usda("--metres", "0.3048", *words, town="solids.obj")
+            self.assertEqual(reader.head["metersPerUnit"], 0.3048)
+            offset = reader.stage["town"].head["customData"]["offset"]
+            self.assertEqual(offset, [20000, 0, 0])
+            found = sorted(rounded(corners) for _, corners in reader.world())
+            faces = (face for solid in town.solids() for face in solid.faces)
+            wanted = sorted([[tuple(a - b for a, b in zip(town.points[at], offset)) for at in face] for face in faces])
+            self.assertEqual(len(found), len(wanted))
+            for some in wanted:
+                near = min(
+                    max(math.dist(a, b) for a, b in zip(some, other)) for other in found if len(other) == len(some)
+                )
+                self.assertLess(near, 1e-3)
+
+    def test_another_ending_is_refused(self):
+        status, _, fault = called("usda", "town.obj", "town.usdz", folder=self.folder)
+        self.assertEqual(status, 2)
+        self.assertIn("town.usdz has to end in .usda", fault)
 
 
 PLATES = (
