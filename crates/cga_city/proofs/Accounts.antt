@@ -1,17 +1,18 @@
 -- The changes of an edit account for what is reported before and after it.
-use Rattle.std.proofs.Common.{◌≡◌, ℕ, ◌+◌, ◌≤◌, List, [], ◌∷◌, length, Bool, true, false, cond, Some, inl, inr, refl, sym, ap, ◌∙◌, subst, arith}
+use Rattle.std.proofs.Common.{◌≡◌, ℕ, ◌+◌, ◌≤◌, List, [], ◌∷◌, length, map, Bool, true, false, cond, Some, inl, inr, refl, sym, ap, ◌∙◌, subst, arith}
 use Rattle.std.specs.Prelude.{bytes_eq, count_by, sum_by, filter}
 use Rattle.std.specs.List.{AllByRecursion, IsDistinct, flat_map}
 use Rattle.std.proofs.lemmas.List.{length-map}
-use Rattle.std.proofs.lemmas.List.Sums.{sum_by-cons, sum_by-append}
+use Rattle.std.proofs.lemmas.List.Sums.{length-filter, sum_by-cons, sum_by-append}
 use Rattle.std.proofs.lemmas.List.Concat.{flat_map-cons}
 use Rattle.std.proofs.lemmas.Slice.Eq.{bytes_eq-Decides}
 use Rattle.cga_word.specs.declared.primitive.Primitive.{Primitive}
 use Rattle.cga_check.specs.Uses.{same_name}
+use Rattle.cga_order.specs.Once.{Once}
 use Rattle.cga_order.specs.World.{Among}
 use Rattle.cga_order.specs.declared.placed.Kind.{Kind}
 use Rattle.cga_order.specs.declared.placed.Kind.TheVariants.{Waiting, Done, Faulted, Instance}
-use Rattle.cga_agenda.specs.Record.{drawn}
+use Rattle.cga_agenda.specs.Record.{Drawn, drawn}
 use Rattle.cga_agenda.proofs.Door.{Has-drawn}
 use Rattle.cga_order.proofs.Door.{length-once}
 use Rattle.cga_shape.specs.declared.changes.Changes.{Changes}
@@ -31,6 +32,7 @@ use Rattle.cga_city.specs.Reports.{drawn_as, drawn_in, drawn_of}
 use Rattle.cga_city.proofs.Deriving.{few_members}
 use Rattle.cga_city.proofs.Sorting.{all_at, decide}
 use Rattle.cga_city.proofs.InLots.{AllAt, members_at_lots}
+use Rattle.cga_city.proofs.Nodes.{filter_from, filter_to}
 
 -- ---- sums
 
@@ -177,6 +179,30 @@ few_drawn : (list : List Member) → length (drawn list) ≤ length list
 few_drawn [] = omega arith
 few_drawn (m ∷ list) = let h = few_by m.shape m.kind list (few_drawn list) in omega (arith, h)
 
+-- ---- what went
+
+module _ {X : Type 0} (test : X → Bool) where
+  once_filtered : (xs : List X) → Once xs → Once (filter test xs)
+  once_filtered [] once = tt
+  once_filtered (x ∷ xs) once = elim (decide (test x)) [
+    | inl t ↦ rw t ((λ i. once.0 (filter_to test xs x i).0), once_filtered xs once.1)
+    | inr f ↦ rw f (once_filtered xs once.1)
+  ]
+
+  -- where each of a list is once and in another, no more of it meet a test
+  few_of : (xs ys : List X) → Once xs → ((x : X) → Among x xs → Among x ys) → count_by test xs ≤ count_by test ys
+  few_of xs ys once all =
+      let few = length-once (filter test xs) (filter test ys) (once_filtered xs once) (λ x i. let w = filter_to test xs x i in filter_from test ys x (all x w.0) w.1) in
+      omega (arith, few, length-filter test xs, length-filter test ys)
+
+told_count : (test : reported.Drawn → Bool) (list : List (Drawn Shape Primitive))
+    → count_by test (map updates.told list) ≡ count_by (λ (d : Drawn Shape Primitive). test (updates.told d)) list
+told_count test [] = refl
+told_count test (d ∷ list) =
+    let a = sum_by-cons (λ (x : reported.Drawn). cond (test x) 1 0) (updates.told d) (map updates.told list) in
+    let b = sum_by-cons (λ (x : Drawn Shape Primitive). cond (test (updates.told x)) 1 0) d list in
+    omega (arith, a, b, told_count test list)
+
 -- ---- changes
 
 module _ (budget : ℕ) (old new : Sources) (before after : List Member) (changes : Changes) (change : IsChange old new before after changes) where
@@ -189,6 +215,18 @@ module _ (budget : ℕ) (old new : Sources) (before after : List Member) (change
       ap (λ (n : ℕ). n + count_by test changes.come) (reports_count test (names_of old.lots) before sound.names (members_at_lots budget old before fits))
       ∙ (change.balance test
       ∙ ap (λ (n : ℕ). n + count_by test changes.gone) (sym (reports_count test (names_of new.lots) after sound'.names (members_at_lots budget new after fits'))))
+
+  -- what went was reported before
+  pub gone_reported : AreSound old → derived budget old ≡ Some before → (test : reported.Drawn → Bool)
+      → count_by test changes.gone ≤ count_by test (drawn_in (names_of old.lots) before)
+  gone_reported sound fits test =
+      let as_told : Drawn Shape Primitive → Bool = λ d. test (updates.told d) in
+      let few = few_of as_told change.gone (drawn before) change.record.gone_once (λ d i. Has-drawn before d (change.record.each_gone d i).0) in
+      let gone = ap (count_by test) change.gone_told in
+      let told = told_count test change.gone in
+      let all = told_count test (drawn before) in
+      let same = reports_count test (names_of old.lots) before sound.names (members_at_lots budget old before fits) in
+      omega (arith, few, gone, told, all, same)
 
   -- no more comes than there are members then
   pub come_few : length changes.come ≤ length after

@@ -1,7 +1,7 @@
 -- What other crates may cite of cga_city. All other pages of its proofs are its own.
 
 -- The changes of an edit account for what is reported before and after it
-pub use Rattle.cga_city.proofs.Accounts.{accounted, come_few, reported_few}
+pub use Rattle.cga_city.proofs.Accounts.{accounted, come_few, gone_reported, reported_few}
 -- The sources of a city go through whole, whatever sources they take the place of
 pub use Rattle.cga_city.proofs.Again.{applied_sound, whole_applied}
 -- What a derivation within a budget comes to, and when it is refused

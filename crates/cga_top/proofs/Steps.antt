@@ -11,6 +11,7 @@ use Rattle.cga_city.specs.Apply.{apply}
 use Rattle.cga_bill.specs.Bill.{Balances}
 use Rattle.cga_city.specs.City.{CityState, HasDistinctLots, IsDone}
 use Rattle.cga_city.specs.Derived.{members}
+use Rattle.cga_city.proofs.Door.{gone_reported}
 use Rattle.cga_city.specs.declared.limits.TheConstants.{BUDGET_TWO}
 use Rattle.cga_update.specs.Updates.{CountsTouched}
 use Rattle.cga_undo.specs.History.{Kept, Step, noted, undone, redone, turned}
@@ -74,6 +75,7 @@ are_changes : (s : State) (old : Session) (city : CityState) (e : Edit) (i j : �
 are_changes s old city e i j at can done =
     let changes : AreChanges old.city.budget old.city.sources city.sources city.changes = record {
       by = done.changed;
+      there = gone_reported old.city.budget old.city.sources city.sources (members old.city.budget old.city.sources) (members old.city.budget city.sources) city.changes done.changed can.sound can.fits;
       balance = subst (λ (b : ℕ). Balances (drawn_by old.city) (drawn_from b city.sources) city.changes) done.budget_stays (balances old.city e city i j can done city.changes refl);
     } in
     subst (λ (b : ℕ). AreChanges b s.sources city.sources city.changes) at.budget

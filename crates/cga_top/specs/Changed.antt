@@ -1,5 +1,5 @@
 -- Which instances a line changed.
-use Rattle.std.specs.Prelude.{◌≡◌, ℕ, List, [], ◌∷◌, Result, Ok, Err}
+use Rattle.std.specs.Prelude.{◌≡◌, ◌≤◌, ℕ, List, [], ◌∷◌, Bool, count_by, Result, Ok, Err}
 use Rattle.cga_bill.specs.Bill.{Balances}
 use Rattle.cga_city.specs.Derived.{members}
 use Rattle.cga_city.specs.Lots.{names_of}
@@ -18,10 +18,12 @@ no_changes = record { gone = []; come = [] }
 abbrev pub drawn_from : ℕ → Sources → List Drawn
 drawn_from budget sources = drawn_in (names_of sources.lots) (members budget sources)
 
--- what went and what came from these sources to those: what came are children of touched shapes, and what is drawn
--- before together with what came is what is drawn after together with what went, each instance as often
+-- what went and what came from these sources to those: what came are children of touched shapes, what went was drawn
+-- before, and what is drawn before together with what came is what is drawn after together with what went, each
+-- instance as often
 pub record AreChanges (budget : ℕ) (old new : Sources) (changes : Changes) : Type 0 where
   pub by : IsChange old new (members budget old) (members budget new) changes
+  pub there : (test : Drawn → Bool) → count_by test changes.gone ≤ count_by test (drawn_from budget old)
   pub balance : Balances (drawn_from budget old) (drawn_from budget new) changes
 
 -- by what an edit gave: a refused one changes nothing
