@@ -1,47 +1,54 @@
 """The corners of faces as a primitive of a glTF file holds them: places, normals, u and v, and triangles of these."""
 from array import array
-from operator import add, itemgetter
-from typing import TYPE_CHECKING, Dict, List, Sequence, Tuple
+from math import copysign
+from operator import itemgetter
+from typing import TYPE_CHECKING, Any, Dict, Hashable, List, Sequence, Tuple
 
 from .eye import dot, normal
 from .forms import Form
-from .glb import INDICES, VERTICES, short
+from .glb import INDICES, MOST_SHORT, VERTICES, short
 from .uv import directions
 
 if TYPE_CHECKING:
     from .glb import Glb
 
 Point = Tuple[float, float, float]
-FOURS = array("I")
+Way = Tuple[Point, float, float]  # a direction, a form's own part along it, and the sign of that, which 0 has as well
+FOURS = {"H": array("H"), "I": array("I")}  # as far as they were asked for
 
 
 class Pattern:
-    """What all solids of a form share: their corners face by face, told from the first corner on, and which of `ways` u and v
-    go along, whose directions these are."""
+    """What all solids of a form share: their corners face by face, with normals and triangles. `parts` are the coordinates by
+    axis, from the first corner on, and `ways` directions of u or v with the form's own part along them: few of each, and
+    `places` and `maps` pick from what they come to."""
 
     def __init__(self, faces: Sequence[Sequence[int]], points: Sequence[Point]) -> None:
         self.number = sum(map(len, faces))
-        self.places = [part for face in faces for at in face for part in points[at]]
         self.has_four = all(len(face) == 4 for face in faces)
-        self.normals, self.triangles, self.maps = (
-            array("f"),
-            array("I"),
-            [],
-        )  # type: array[float], array[int], List[float]
-        known: Dict[Point, int] = {}
-        numbers: List[int] = []
+        self.normals, self.triangles = array("f"), array("I")
+        pairs: List[Way] = []
+        known: Dict[Point, Point] = {}
         for face in faces:
             up = normal(*[points[at] for at in face[:3]])
-            u, v = directions(up)
-            pair = u, (-v[0], -v[1], -v[2])  # glTF counts v downwards
             first = len(self.normals) // 3
             self.normals.extend(up * len(face))
             for k in range(first + 1, first + len(face) - 1):
                 self.triangles.extend((first, k, k + 1))
-            for at in face:
-                self.maps += [dot(points[at], way) for way in pair]
-                numbers += [known.setdefault(way, len(known)) for way in pair]
-        self.ways, self.each = list(known), itemgetter(*numbers)
+            u, v = directions(up)
+            pair = u, (-v[0], -v[1], -v[2])  # glTF counts v downwards
+            for way, own in [(way, dot(points[at], way)) for at in face for way in pair]:
+                pairs.append((known.setdefault(way, way), own, copysign(1, own)))
+        flat = [(axis, points[at][axis]) for face in faces for at in face for axis in range(3)]
+        parts = sorted(set(flat))
+        self.parts = [[part for other, part in parts if other == axis] for axis in range(3)]
+        self.ways = list(dict.fromkeys(pairs))
+        self.places, self.maps = picker(parts, flat), picker(self.ways, pairs)
+
+
+def picker(few: Sequence[Hashable], many: Sequence[Hashable]) -> "itemgetter[Any]":
+    """What picks many from a list as long as few, by what they are."""
+    numbers = {what: number for number, what in enumerate(few)}
+    return itemgetter(*[numbers[what] for what in many])
 
 
 class Corners:
@@ -53,11 +60,10 @@ class Corners:
 
     def add(self, pattern: Pattern, corner: Point = (0.0, 0.0, 0.0), low: Point = (0.0, 0.0, 0.0)) -> None:
         """A solid whose first corner stands there. Its texture lies by that, and its places are told from a low corner on."""
-        x, y, z = corner
-        moved = (x - low[0], y - low[1], z - low[2]) * pattern.number
-        self.places.extend(map(add, pattern.places, moved))
-        ways = [x * a + y * b + z * c for a, b, c in pattern.ways]
-        self.maps.extend(map(add, pattern.maps, pattern.each(ways)))
+        (x, y, z), (xs, ys, zs) = corner, pattern.parts
+        at, up, on = x - low[0], y - low[1], z - low[2]
+        self.places.extend(pattern.places([at + k for k in xs] + [up + k for k in ys] + [on + k for k in zs]))
+        self.maps.extend(pattern.maps([x * a + y * b + z * c + own for (a, b, c), own, _ in pattern.ways]))
         self.normals.extend(pattern.normals)
         if self.fours == self.number and pattern.has_four:
             self.fours += pattern.number
@@ -77,13 +83,18 @@ class Corners:
 
     def tell_fours(self) -> None:
         if not self.triangles:
-            self.triangles.extend(triangles_of_fours(self.fours))
+            self.triangles.extend(triangles_of_fours(self.fours, "I"))
+
+    def indices(self) -> "array[Any]":
+        if self.fours == self.number <= MOST_SHORT:
+            return triangles_of_fours(self.fours, "H")
+        self.tell_fours()
+        return short(self.triangles, self.number)
 
     def primitive(self, glb: "Glb", material: int) -> Dict[str, object]:
-        self.tell_fours()
         return {
             "material": material,
-            "indices": glb.accessor(short(self.triangles, self.number), "SCALAR", INDICES),
+            "indices": glb.accessor(self.indices(), "SCALAR", INDICES),
             "attributes": {
                 "POSITION": glb.accessor(self.places, "VEC3", VERTICES, has_bounds=True),
                 "NORMAL": glb.accessor(self.normals, "VEC3", VERTICES),
@@ -92,12 +103,13 @@ class Corners:
         }
 
 
-def triangles_of_fours(number: int) -> array:
+def triangles_of_fours(number: int, kind: str) -> "array[Any]":
     """The triangles of faces that have four corners each, of so many corners."""
-    while len(FOURS) * 4 < number * 6:
-        at = len(FOURS) // 6 * 4
-        FOURS.extend((at, at + 1, at + 2, at, at + 2, at + 3))
-    return FOURS[: number // 4 * 6]
+    known = FOURS[kind]
+    while len(known) * 4 < number * 6:
+        at = len(known) // 6 * 4
+        known.extend((at, at + 1, at + 2, at, at + 2, at + 3))
+    return known[: number // 4 * 6]
 
 
 def pattern_of(form: Form, known: Dict[Form, Pattern]) -> Pattern:

@@ -8,6 +8,30 @@ from .script import text_of
 from .sources import frugal
 
 
+class Lines:
+    """The lines of replies alone, from a program's output; changes are handed on as soon as they are told."""
+
+    def __init__(self, output, changed):
+        self.output, self.changed = output, changed
+
+    def __iter__(self):
+        return self
+
+    def __next__(self):
+        for line in self.output:
+            if not line.startswith(b"# changed "):
+                return line.decode("latin-1").rstrip("\n")
+            gone, come = map(int, line.split()[2:4])
+            told = [line[2:-1] for line in islice(self.output, gone + come)]
+            self.changed(told[:gone], told[gone:])
+        raise StopIteration
+
+    def many(self, number):
+        """The next lines, between which nothing changes."""
+        text = b"".join(islice(self.output, number)).decode("latin-1")
+        return text[:-1].split("\n") if text else []
+
+
 class Live:
     """What is changed is handed on as soon as it is told: the lines that went, and those that came."""
 
@@ -16,17 +40,10 @@ class Live:
         self.process = subprocess.Popen(
             [program], env=frugal(), stdin=subprocess.PIPE, stdout=subprocess.PIPE, bufsize=1 << 16
         )
-        self.replies = replies(self.lines())
+        self.replies = replies(Lines(self.process.stdout, self.change))
 
-    def lines(self):
-        """The lines of replies alone."""
-        for line in self.process.stdout:
-            if line.startswith(b"# changed "):
-                gone, come = map(int, line.split()[2:4])
-                told = [line[2:-1] for line in islice(self.process.stdout, gone + come)]
-                self.changed(told[:gone], told[gone:])
-            else:
-                yield line.decode("latin-1").rstrip("\n")
+    def change(self, gone, come):
+        self.changed(gone, come)
 
     def ask(self, lines, number):
         """The replies to lines that have so many. Behind the last of them nothing may have changed."""

@@ -1,7 +1,7 @@
 """A town as the lines of an OBJ text with one mesh for each symbol of each lot, and a place in a texture for each corner."""
 from fractions import Fraction
 from operator import itemgetter
-from typing import Dict, Iterator, List, Optional, Sequence, Tuple
+from typing import Callable, Dict, Iterable, Iterator, List, NamedTuple, Optional, Sequence, Tuple
 
 from .exact import parted
 from .eye import dot, normal
@@ -14,6 +14,7 @@ from .uv import directions
 
 DECIMALS = 12  # of a coordinate that was moved; of an OBJ text none is rounded
 Direction = Tuple[float, float, float]
+Way = Tuple[Direction, float]  # a direction of u or v, and a form's own part along it
 
 
 class Axis(Dict[Tuple[str, int, int], str]):
@@ -57,6 +58,24 @@ class Reals(Dict[str, float]):
         return self[text]
 
 
+class Row(Dict[str, Tuple[str, ...]]):
+    """What is written of corners whose coordinate along an axis has a text: one word for each of some parts."""
+
+    def __init__(self, words: Callable[[str], Iterable[str]]) -> None:
+        super().__init__()
+        self.words = words
+
+    def __missing__(self, text: str) -> Tuple[str, ...]:
+        self[text] = tuple(self.words(text))
+        return self[text]
+
+
+def axis_of(way: Direction) -> int:
+    """The axis that a direction goes along; 3 where it goes along none."""
+    used = [axis for axis in range(3) if way[axis]]
+    return used[0] if len(used) == 1 and abs(way[used[0]]) == 1 else 3
+
+
 class Shape:
     """What all solids of a form share: lines of vertices and faces to be filled in, and what fills them. `parts` are coordinates
     from the first corner on, each with its axis, and `ways` are directions of u or v with the form's own part along them.
@@ -68,17 +87,22 @@ class Shape:
         self.parts = sorted(set(flat))
         self.coordinates = itemgetter(*map(self.parts.index, flat))
         self.vertices = "v %s %s %s\n" * self.number
-        self.corners = [at for face in form.faces for at in face]
-        self.faces = "".join("f" + " %d/%d" * len(face) + "\n" for face in form.faces)
-        points, known = form.points(), {}  # type: List[Direction], Dict[Tuple[Direction, float], int]
-        pairs: List[List[int]] = [[], []]
+        self.corners = itemgetter(*[at for face in form.faces for at in face])
+        self.faces = "".join("f" + " %s/%s" * len(face) + "\n" for face in form.faces)
+        points, pairs = form.points(), ([], [])  # type: List[Direction], Tuple[List[Way], List[Way]]
         for face in form.faces:
             both = directions(normal(*[points[at] for at in face[:3]]))
             for at in face:
                 for pair, way in zip(pairs, both):
-                    pair.append(known.setdefault((way, dot(way, points[at])), len(known)))
-        self.us, self.vs = itemgetter(*pairs[0]), itemgetter(*pairs[1])
-        self.ways = list(known)
+                    pair.append((way, dot(way, points[at])))
+        self.ways = sorted(dict.fromkeys(pairs[0] + pairs[1]), key=lambda way: axis_of(way[0]))
+        self.us, self.vs = (itemgetter(*map(self.ways.index, pair)) for pair in pairs)
+
+    def parts_of(self, axis: int) -> Tuple[int, ...]:
+        return tuple(part for other, part in self.parts if other == axis)
+
+    def ways_of(self, axis: int) -> Tuple[Way, ...]:
+        return tuple(way for way in self.ways if axis_of(way[0]) == axis)
 
 
 class Merged:
@@ -88,15 +112,32 @@ class Merged:
         self.lots, self.meshes, self.setting = lots, 0, setting
         is_moved, metres = setting.metres != 1 or any(setting.offset), Fraction(setting.metres)
         self.axes = [Axis(Fraction(offset), metres, None if is_moved else places) for offset in setting.offset]
-        self.shapes: Dict[Form, Shape] = {}
         self.reals = [Reals(Fraction(offset)) for offset in setting.offset]
-        self.maps: Dict[Tuple[str, str], int] = {}
+        self.rows: Dict[Tuple[object, ...], Row] = {}
+        self.known: Dict[Form, Known] = {}
+        self.maps: Dict[Tuple[str, str], str] = {}  # the numbers of lines `vt`
         self.texts = Texts()
 
-    def shape(self, form: Form) -> Shape:
-        found = self.shapes.get(form)
+    def row(self, key: Tuple[object, ...], words: Callable[[str], Iterable[str]]) -> Row:
+        """The row of this key, which forms with the same parts share."""
+        return self.rows.setdefault(key, Row(words))
+
+    def coordinates(self, axis: int, parts: Tuple[int, ...], one: int) -> Row:
+        texts = self.axes[axis]
+        return self.row((axis, parts, one), lambda text: [texts[text, part, one] for part in parts])
+
+    def places(self, axis: int, ways: Tuple[Way, ...]) -> Row:
+        """u or v along an axis."""
+        reals, texts, each = self.reals[axis], self.texts, [(way[axis], own) for way, own in ways]
+        return self.row((axis, ways), lambda text: [texts[sign * reals[text] + own] for sign, own in each])
+
+    def of(self, form: Form) -> "Known":
+        found = self.known.get(form)
         if found is None:
-            found = self.shapes[form] = Shape(form)
+            shape = Shape(form)
+            coordinates = [self.coordinates(axis, shape.parts_of(axis), shape.one) for axis in range(3)]
+            places = [self.places(axis, shape.ways_of(axis)) for axis in range(3)]
+            found = self.known[form] = Known(shape, coordinates, places, shape.ways_of(3))
         return found
 
     def lines(self) -> Iterator[str]:
@@ -118,32 +159,39 @@ class Merged:
                     yield from self.faces(first, instance)
 
     def vertices(self, instance: Instance) -> str:
-        _, form, corner = instance
-        shape, axes = self.shape(form), self.axes
-        one = shape.one
-        texts = [axes[axis][corner[axis], part, one] for axis, part in shape.parts]
-        return shape.vertices % shape.coordinates(texts)
+        _, form, (x, y, z) = instance
+        shape, (xs, ys, zs), _, _ = self.of(form)
+        return shape.vertices % shape.coordinates(xs[x] + ys[y] + zs[z])
 
     def faces(self, first: int, instance: Instance) -> Iterator[str]:
         """The lines `vt` that weren't written yet, and the lines of the faces."""
-        _, form, corner = instance
-        shape = self.shape(form)
-        texts = self.along(shape, corner)
+        _, form, (x, y, z) = instance
+        shape, _, (xs, ys, zs), leaning = self.of(form)
+        texts = xs[x] + ys[y] + zs[z]
+        if leaning:
+            texts += self.along(leaning, (x, y, z))
         pairs = list(zip(shape.us(texts), shape.vs(texts)))
         numbers = list(map(self.maps.get, pairs))
         if None in numbers:
             for pair in pairs:
                 if pair not in self.maps:
-                    self.maps[pair] = len(self.maps) + 1
+                    self.maps[pair] = str(len(self.maps) + 1)
                     yield f"vt {pair[0]} {pair[1]}\n"
             numbers = [self.maps[pair] for pair in pairs]
-        words: List[Optional[int]] = [None] * (2 * len(numbers))
-        words[::2], words[1::2] = [first + at for at in shape.corners], numbers
+        words: List[Optional[str]] = [None] * (2 * len(numbers))
+        words[::2], words[1::2] = shape.corners(list(map(str, range(first, first + shape.number)))), numbers
         yield shape.faces % tuple(words)
 
-    def along(self, shape: Shape, corner: Sequence[str]) -> List[str]:
-        """u or v of a corner for each of the shape's ways."""
-        xs, ys, zs = self.reals
-        x, y, z = xs[corner[0]], ys[corner[1]], zs[corner[2]]
-        texts = self.texts
-        return [texts[a * x + b * y + c * z + own] for (a, b, c), own in shape.ways]
+    def along(self, ways: Sequence[Way], corner: Sequence[str]) -> Tuple[str, ...]:
+        """u or v of a corner for each of the ways that go along no axis."""
+        x, y, z = (reals[text] for reals, text in zip(self.reals, corner))
+        return tuple([self.texts[a * x + b * y + c * z + own] for (a, b, c), own in ways])
+
+
+class Known(NamedTuple):
+    """The shape of a form, the rows of its coordinates and of u and v by axis, and the ways of u and v along no axis."""
+
+    shape: Shape
+    coordinates: List[Row]
+    places: List[Row]
+    leaning: Tuple[Way, ...]

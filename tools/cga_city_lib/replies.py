@@ -25,7 +25,7 @@ def replies(lines):
         elif line in ("rules", "version 2"):
             reply += until_end(lines)
         elif counted := re.fullmatch(r"# (?:faults|bill|trace) (\d+)", line):
-            reply += islice(lines, int(counted.group(1)))
+            reply += taken(lines, int(counted.group(1)))
         yield reply
         line = next(lines, None) if following is None else following
 
@@ -39,6 +39,11 @@ def without_changes(lines):
                 pass
         else:
             yield line
+
+
+def taken(lines, number):
+    """So many lines; a reader that has a quicker way than one by one takes it."""
+    return lines.many(number) if hasattr(lines, "many") else islice(lines, number)
 
 
 def is_refused(reply):

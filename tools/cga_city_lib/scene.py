@@ -61,7 +61,9 @@ class Scene:
             elif solid.symbol in self.meshes:
                 self.bake(once, stand_of(name, number, solid.form), solid, low)
             else:
-                kept = once.setdefault((solid.symbol,), Corners())
+                kept = once.get((solid.symbol,))
+                if kept is None:
+                    kept = once[(solid.symbol,)] = Corners()
                 kept.add(pattern_of(solid.form, self.patterns), self.corner(solid.corner), low)
         node: Dict[str, Any] = {"name": name, "translation": list(low)}
         parts = [found.primitive(self.glb, self.material(*key)) for key, found in once.items() if found.number]
@@ -73,12 +75,18 @@ class Scene:
 
     def low(self, solids: List[Instance]) -> Point:
         """A lot's low corner in whole units."""
-        ends = (
-            [at + least for at, least in zip(self.corner(corner), form.ends()[0])]
-            for form, corner in {(form, corner) for _, form, corner in solids}
-        )
+        corners: Dict[Form, List[Sequence[str]]] = {}
+        for _, form, corner in solids:
+            corners.setdefault(form, []).append(corner)
+        ends = [self.least(form, some) for form, some in corners.items()]
         x, y, z = (float(math.floor(min(parts))) for parts in zip(*ends))
         return x, y, z
+
+    def least(self, form: Form, corners: Sequence[Sequence[str]]) -> List[float]:
+        """The least coordinate along each axis of a form at some corners."""
+        texts, reals = [set(some) for some in zip(*corners)], self.reals
+        numbers = [min([reals[text] for text in some]) for some in texts]
+        return [at - offset + least for at, offset, least in zip(numbers, self.offset, form.ends()[0])]
 
     def corner(self, texts: Sequence[str]) -> Point:
         """A corner without the offset."""

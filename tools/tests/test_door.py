@@ -80,9 +80,12 @@ class WhatWasGiven(Given):
             (b"<svg>", "is HTML, SVG or XML"),
             (b'{"a": 1}', "is JSON"),
             (b'1: house -> I("cube")\n', "has rules without a block: write a line `rules` before them"),
-            (b"# ok\n# refused BadLot a\n", "has replies and no town: a script whose last line is `print`"),
+            (
+                b"# ok\n# refused BadLot a\n",
+                "has replies and no town: give the script itself, or end it by a line `print`",
+            ),
             (b"# a town\n", "has comments alone"),
-            (b"lot,area\na,40\n", "is no script and no OBJ text: its first line is `lot,area`"),
+            (b"lot,area\na,40\n", "is no script and no OBJ text, since its first line is `lot,area`"),
             (b"\x1b]0;x\x07", "its first line is `\\x1b]0;x\\x07`"),
         ):
             with self.subTest(told):
