@@ -129,7 +129,7 @@ class KeptRegion:
         while True:
             self.parts.check_sizes()
             found = list(parts)
-            for part, told in zip(found, boxes.run(map(self.asked, found))):
+            for part, told in zip(found, boxes.run(list(map(self.asked, found)))):
                 self.parts.tell(part, told)
             pairs = list(differing(self.parts)) if is_asking else []
             if not pairs:

@@ -1,10 +1,11 @@
 """What tools/region does: begins the jobs of a region that was cut, replies to lines on standard input, and keeps what it accepted."""
+import argparse
 import shlex
 import sys
 from hashlib import sha256
 from itertools import cycle
 from pathlib import Path
-from typing import Any, Iterator
+from typing import Any, Iterator, List
 
 from .call import Refused, Words
 from .findings import Findings
@@ -15,20 +16,30 @@ from .kept_commands import Commands
 from .kept_parts import TooManyLots
 from .kept_region import KeptRegion, RefusedByJob
 from .kept_sources import Sources, lot_of
+from .live import tells_changes
 from .plan import read_plan
 from .program import ready
 from .region import Region
+from .strangers_text import told
 from .told_boxes import NotTold
 
 
 def words() -> Words:
     known = Words()
     known.add_argument("folder", type=Path)
-    known.add_argument("--by", action="append", default=[])
+    known.add_argument("--by", type=words_before, action="append", default=[])
     known.add_argument("--changes", action="store_true")
     known.add_argument("--program")
     known.add_argument("--hulls")
     return known
+
+
+def words_before(word: str) -> List[str]:
+    """Words as a shell reads them."""
+    try:
+        return shlex.split(word)
+    except ValueError:
+        raise argparse.ArgumentTypeError(f"`{told(word)}` isn't words of a shell: a quotation has no end") from None
 
 
 def main(given: Any) -> None:
@@ -46,9 +57,11 @@ def keep(given: Any, plan: Any) -> None:
         )
     journal = Journal(given.folder, sha256(script.data).hexdigest())
     program = Program(ready(given.program, "cga_live"), [])
+    if given.program and not tells_changes(given.program):
+        raise Refused(f"{given.program} doesn't tell what an edit changed: name a cga_live by --program")
     program.save(given.folder)
     path = str((given.folder / program.name).resolve())
-    by = cycle([*map(shlex.split, given.by)] or [[]])
+    by = cycle(given.by or [[]])
     region = KeptRegion(
         sources_of(script, plan),
         plan.options,

@@ -89,12 +89,14 @@ class LiveJob:
         return answer
 
     def answered(self) -> Answer:
+        status = 0
         for _ in range(TRIES):
             try:
                 return self.read()
             except Ended:
+                status = self.process.wait()
                 self.again()
-        raise Refused(f"{self.words[-1]} ended {TRIES} times at the same lines, with status {self.process.returncode}")
+        raise Refused(f"{' '.join(self.words)} ended {TRIES} times at the same lines, with status {status}")
 
     def again(self) -> None:
         """Another process, in the state that was there before the step, which is sent again."""
@@ -122,7 +124,6 @@ class LiveJob:
                 come += self.own_lines(came)
             else:
                 replies.append(line.decode("latin-1").rstrip("\n"))
-        self.process.wait()
         raise Ended
 
     def own_lines(self, number: int) -> List[bytes]:

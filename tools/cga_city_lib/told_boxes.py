@@ -4,16 +4,18 @@ read, so that one lot's edit doesn't wait for a start."""
 import os
 import subprocess
 from collections import deque
-from typing import Deque, Dict, Iterable, Iterator, List, NamedTuple, Optional, Sequence, Tuple
+from typing import Deque, Dict, Iterator, List, NamedTuple, Optional, Sequence, Tuple
 
 from .call import Refused
 from .grid import Box, number
+from .many_runs import outputs
 from .script import text_of
 from .sources import frugal
 from .steps import digest_of, sizes, steps_by_lot
 
 Process = "subprocess.Popen[bytes]"
 TRIES = 3  # of a run whose process is killed
+MANY = 16  # parts that are told of at once: from here on shells begin the runs
 BEGINNING = ["version 2", "quiet", "city"]
 
 
@@ -82,8 +84,17 @@ class Boxes:
         while self.waiting:
             end(self.waiting.popleft())
 
-    def run(self, parts: Iterable[Asked]) -> Iterator[Dict[str, Told]]:
-        """What is told of the lots of each part, by name. Some runs go on at once."""
+    def run(self, parts: Sequence[Asked]) -> Iterator[Dict[str, Told]]:
+        """What is told of the lots of each part, by name."""
+        done = 0
+        if len(parts) > MANY:
+            scripts = [text_of([*BEGINNING, *self.head, *self.lines(asked.lots)]) for asked in parts]
+            for done, out in enumerate(outputs(self.program, scripts, self.workers), 1):
+                yield self.told(out, parts[done - 1])
+        yield from self.run_few(parts[done:])
+
+    def run_few(self, parts: Sequence[Asked]) -> Iterator[Dict[str, Told]]:
+        """The same by processes that this one begins; some runs go on at once."""
         running: Deque[Tuple[Process, Asked]] = deque()
         try:
             for asked in parts:
@@ -98,9 +109,13 @@ class Boxes:
 
     def fed(self, lots: Sequence[str]) -> Process:
         process = self.waiting.popleft() if self.waiting else self.begin()
-        put(process, text_of([*lots, "end", *["trace"] * self.has_steps]))
+        put(process, text_of(self.lines(lots)))
         close_end(process)
         return process
+
+    def lines(self, lots: Sequence[str]) -> List[str]:
+        """What follows the head."""
+        return [*lots, "end", *["trace"] * self.has_steps]
 
     def read(self, process: Process, asked: Asked) -> Dict[str, Told]:
         for _ in range(TRIES):

@@ -18,11 +18,12 @@ for name in "argparse decimal fractions hashlib json random runpy threading unit
     importlib.import_module(name)
 
 TOP = Path(__file__).resolve().parent.parent.parent
-CUT, CHECKS, RINGS, DAMAGE = (
+CUT, CHECKS, RINGS, DAMAGE, KEPT = (
     "test_districts.Cut.test_",
     "test_districts_checks.Checks.test_",
     "test_districts_rings.Rings.test_",
     "test_districts_damage.Damage.test_",
+    "test_region.Agreement.test_",
 )
 
 # its name, the file, what stands there, what is planted, and the test
@@ -159,6 +160,41 @@ BUGS = [
         "if line.split()[2] in own]",
         "if own]",
         RINGS + "counts_and_faults_are_those_of_the_own_lots",
+    ),
+    (
+        "a neighbour that was told otherwise isn't compared",
+        "agreement.py",
+        "(part.ring if own else part.ring & told)",
+        "(set() if own else part.ring & told)",
+        KEPT + "what_is_compared_behind_an_edit_is_all_that_may_differ",
+    ),
+    (
+        "a lot that came from another part isn't compared",
+        "agreement.py",
+        "name in told or name not in was.own",
+        "name in told",
+        KEPT + "what_is_compared_behind_an_edit_is_all_that_may_differ",
+    ),
+    (
+        "those that have a changed lot as a neighbour aren't compared",
+        "agreement.py",
+        "for holder in parts.holders.get(name, ()):",
+        "for holder in ():",
+        KEPT + "what_is_compared_behind_an_edit_is_all_that_may_differ",
+    ),
+    (
+        "other steps are the same",
+        "kept_parts.py",
+        "name in self.ring and self.told[name].digest == other.told[name].digest",
+        "name in self.ring",
+        KEPT + "what_is_compared_behind_an_edit_is_all_that_may_differ",
+    ),
+    (
+        "an edit that is taken back leaves its boxes",
+        "kept_parts.py",
+        "            for name in was.own & was.told.keys():\n",
+        "            for name in ():\n",
+        KEPT + "an_edit_that_is_taken_back_leaves_no_trace",
     ),
 ]
 
