@@ -24,7 +24,8 @@ def unit(a: Point) -> Point:
 
 def normal(a: Point, b: Point, c: Point) -> Point:
     """Of the face that goes on through these three corners."""
-    return unit(cross(tuple(q - p for p, q in zip(a, b)), tuple(q - p for p, q in zip(a, c))))
+    (x, y, z), (u, v, w), (r, s, t) = a, b, c
+    return unit(cross((u - x, v - y, w - z), (r - x, s - y, t - z)))
 
 
 class Eye:

@@ -117,10 +117,11 @@ def lot_table(names: Sequence[Tuple[str, str, Dict[str, Any]]]) -> Table:
 
 def lot_tile(faces: Sequence[Face], tables: Sequence[Table], origin: Corner, extras: Dict[str, Any]) -> bytes:
     """The bytes of the file; places are told from the origin."""
-    made, meshes, symbols = Glb(), {}, tables[1].columns["symbol"]
+    made, meshes = Glb(), {}  # type: Glb, Dict[Any, Mesh]
+    by_symbol = [meshes.setdefault(colour_of(symbol), Mesh()) for symbol in tables[1].columns["symbol"]]
     for face in faces:
-        meshes.setdefault(colour_of(symbols[face.symbol]), Mesh()).add(face, origin)
-    if not meshes:
+        by_symbol[face.symbol].add(face, origin)
+    if not faces:
         return bytes(made.file([]))
     counts = [table.count() for table in tables]
     primitives = [mesh.primitive(made, colour, counts) for colour, mesh in meshes.items()]

@@ -6,6 +6,7 @@ import unittest
 from unittest import mock
 from xml.etree import ElementTree
 
+import cityjson_reader
 from in_process import called
 from parcel_maps import CUBES, Called, box, polygon, street
 
@@ -118,6 +119,25 @@ class Towns(Called):
         self.assertEqual(sorted(kinds), ["OuterFloorSurface", "RoofSurface", *["WallSurface"] * 4])
         self.assertEqual(len(solid["boundaries"]), len(kinds))
         self.assertTrue(all(isinstance(n, int) for at in data["vertices"] for n in at))
+
+    def test_cityjson_by_the_rules_of_its_schemas(self):
+        """And the reader refuses what these don't allow."""
+        self.made(".city.json", *self.features())
+        text = self.out.read_text()
+        self.assertGreater(cityjson_reader.read(json.loads(text)), 2 * 7 * 4)
+        for old, new, told in (
+            ('"2.0"', '"1.1"', "type and version"),
+            ('"lod":"0"', '"lod":0', "a level of detail is a text"),
+            ("/CRS84h", "", "an address of a system"),
+            ('"MultiLineString"', '"Solid"', "a form of Road"),
+            ('"WallSurface"', '"Wall"', "Wall of a Building"),
+            ('"values":[', '"values":[0,', "a value for each surface"),
+            ('"vertices":[', '"vertices":[[0,0,1.5],', "vertices of whole numbers"),
+            ('"vertices":[', '"vertices":[[9,9,9],', "each vertex is there and used"),
+        ):
+            self.assertIn(old, text)
+            with self.assertRaisesRegex(AssertionError, told):
+                cityjson_reader.read(json.loads(text.replace(old, new)))
 
     def test_what_is_out_goes_in_again(self):
         self.made(".city.json", *self.features())

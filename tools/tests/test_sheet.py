@@ -5,8 +5,8 @@ import unittest
 from unittest import mock
 from xml.etree import ElementTree
 
-from in_process import called
-from parcel_maps import CUBES, RULES, Called, box, polygon, street
+from in_process import TESTS, called
+from parcel_maps import CUBES, RULES, Called, box, polygon, street, turned_box
 
 from cga_city_lib import by_browser, pdf, perspective, sheet_views
 from cga_city_lib.frame import fitting
@@ -14,6 +14,7 @@ from cga_city_lib.labels import box_of, overlap
 from cga_city_lib.sheet_layout import PAPERS, places
 from cga_city_lib.sheet_parts import read_block
 
+TOP = TESTS.parent.parent
 SVG, LINK = "{http://www.w3.org/2000/svg}", "{http://www.w3.org/1999/xlink}"
 
 
@@ -59,6 +60,37 @@ class Tables(Sheets):
         self.made("--floor", "yard=1.5", "--table", self.csv)
         self.assertIn("1/2,,400.0,2,800.0,2.00,3.00,2.50,+0.50\n", self.csv.read_text(encoding="utf-8"))
         self.assertIn("1/1,Long Street 1,200.0,2,400.0,2.00,3.00,,\n", self.csv.read_text(encoding="utf-8"))
+
+    def test_floor_areas_of_ten_parcels(self):
+        """By the rules of examples/maps/street.cga a house stands 3.5 from its sides, 8 from its front and 4 from behind, a
+        block 4 from both; where a parcel isn't more than 10.5 by 12 it is a garden. The definition in Python derives them.
+        """
+        text = (TOP / "examples" / "maps" / "street.cga").read_text(encoding="utf-8")
+        plain = re.sub(r"(?m)^(8|9|10|11): .*\n", "", text).replace("12: wall", "8: facade -> wall\n12: wall")
+        self.rules.write_text(plain, encoding="utf-8")
+        parcels = (
+            ("house", 20, 30, 2, "468.0"),  # 13 x 18 x 2
+            ("house", 18.5, 26, 3, "483.0"),  # 11.5 x 14 x 3
+            ("block", 25, 28, 6, "2,160.0"),  # 18 x 20 x 6
+            ("block", 30, 26.5, 4, "1,702.0"),  # 23 x 18.5 x 4
+            ("house", 10.4, 30, 2, "0.0"),
+            ("house", 16, 12, 2, "0.0"),
+            ("block", 12.2, 13, 5, "130.0"),  # 5.2 x 5 x 5
+            ("house", 14, 24, 1, "84.0"),  # 7 x 12
+            ("block", 22, 20, 3, "540.0"),  # 15 x 12 x 3
+            ("house", 24, 33.3, 2, "724.2"),  # 17 x 21.3 x 2
+        )
+        features = [
+            turned_box(5e5 + 50 * k, 5e6, wide, deep, 30 * (k > 7), name=f"{k}", symbol=kind, storeys=storeys)
+            for k, (kind, wide, deep, storeys, _) in enumerate(parcels)
+        ]
+        self.write(*features, crs={"type": "name", "properties": {"name": "EPSG:25832"}})
+        status, _, said = self.made("--front", "south", "--table", self.csv, program=str(TOP / "tools" / "define"))
+        self.assertEqual(status, 0, said)
+        rows = [line.split(",") for line in self.csv.read_text(encoding="utf-8").split("\n")[1:-1]]
+        self.assertEqual([row[4] for row in rows], [area.replace(",", "") for *_, area in parcels])
+        told = "".join(ElementTree.fromstring(self.sheet.read_text(encoding="utf-8")).itertext())
+        self.assertIn("gross floor area, m²6,291.20", told.replace("\n", ""))
 
     def test_what_is_proved_and_what_tested(self):
         _, parts = self.parts("--floor", "yard=3")
