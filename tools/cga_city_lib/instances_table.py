@@ -145,12 +145,11 @@ class Instances:
         slots: Dict[int, List[int]] = {table.number: [] for table in self.numbered}
         for place in [self.held.pop(line) for line in moved]:
             slots[place & NUMBER].append(place >> TABLES)
-        for table in self.numbered:
-            if slots[table.number]:
-                table.drop(slots[table.number])
-                if len(table.free) == len(table):
-                    table.clear()
-                    table.changed = array("I")
+        for table in self.numbered if changed else ():
+            table.drop(slots[table.number])
+            if table.free and len(table.free) == len(table):  # a page may not know its mesh any more
+                table.clear()
+                table.changed = array("I")
         self.reader.own = dict(own)
         self.add(moved)
 

@@ -79,6 +79,20 @@ class PreviewPage(unittest.TestCase):
         )
         self.assertIn("2 lots, 2 solids", run("box_of('sums').textContent"))
 
+    def test_a_mesh_of_ones_own_that_is_saved_again(self):
+        """The page draws the other mesh, and so does one that never knew the first."""
+        mesh = self.script.with_name("own.obj")
+        mesh.write_text("v 0 0 0\nv 2 0 0\nv 0 4 0\nf 1 2 3\n", encoding="utf-8")
+        self.save(SCRIPT + "# mesh house own.obj\n")
+        told = "[...town.batches.values()].filter(({count}) => count).map(({count, mesh}) => [count, mesh.corners])"
+        self.assertEqual(self.browser.run(told), [[1, [[0, 0, 0], [1, 0, 0], [0, 1, 0]]]])
+        mesh.write_text("v 0 0 0\nv 2 0 0\nv 1 4 0\nf 1 2 3\n", encoding="utf-8")
+        for _ in range(2):
+            self.browser.wait("head.save === 3 && is_asked === false")
+            self.assertEqual(self.browser.run(told), [[1, [[0, 0, 0], [1, 0, 0], [0.5, 1, 0]]]])
+            self.assertEqual(self.browser.run("[gl.getError(), box_of('said').textContent]"), [0, ""])
+            self.browser.open(self.browser.run("location.href"))
+
     def test_a_slider_of_another_page_moves_here(self):
         address = self.browser.run("location.href")
         words = {"data": b'{"h": "4.5"}', "headers": {"Origin": address.rstrip("/")}}

@@ -52,7 +52,7 @@ class Town {
   take({tables, lots, symbols, offset}, data, from, moment = OVER) {
     this.lots = this.lots.concat(lots);
     symbols.forEach(symbol => this.number_of(symbol));
-    for (const told of tables) from = this.batch(told.mesh).take(told, data, from, moment);
+    for (const told of tables) if (told.total > 0 || SOLIDS[told.mesh]) from = this.batch(told.mesh).take(told, data, from, moment);
     this.offset = offset.length ? offset : null;
     this.measure();
   }
