@@ -78,6 +78,7 @@ def alone(folder):
         try:
             fcntl.flock(lock, fcntl.LOCK_EX | fcntl.LOCK_NB)
         except BlockingIOError:
-            print(f"districts: another call works in {folder}; waiting for it", file=sys.stderr)
+            name = os.path.basename(sys.argv[0])
+            print(f"{name}: another call works in {folder}; waiting for it", file=sys.stderr)
             fcntl.flock(lock, fcntl.LOCK_EX)
         yield

@@ -5,6 +5,7 @@ from pathlib import Path
 from typing import Iterator, List
 
 from .call import Refused
+from .files import naming
 from .script import commands, is_open, lines_of, text_of
 
 FILE = "edits"
@@ -44,8 +45,10 @@ class Journal:
             self.file = os.open(self.path, os.O_WRONLY | os.O_APPEND | os.O_CREAT, 0o666)
             lines = [self.first, *lines] if is_new else lines
         data = text_of(lines)
-        if os.write(self.file, data) != len(data):
-            raise Refused(f"{self.path} can't be written: the disk is full")
+        with naming(self.path):
+            written = os.write(self.file, data)
+        if written != len(data):
+            raise Refused(f"{self.path}: the disk is full: make room, and call again; the edit isn't accepted")
 
     def close(self) -> None:
         if self.file >= 0:

@@ -129,10 +129,10 @@ def along_river(column, row):
 
 
 KINDS = {
-    "rows": Kind(24, 8, ["--lots", "24"], in_rows),
-    "wall": Kind(14, 12, ["--lots", "24", "--rings", "1"], in_wall),
-    "river": Kind(40, 4, ["--lots", "20", "--rings", "1"], along_river),
-    "plain": Kind(24, 8, ["--lots", "24"], in_rows, asks=False),
+    "rows": Kind(16, 7, ["--lots", "16"], in_rows),
+    "wall": Kind(11, 9, ["--lots", "16", "--rings", "1"], in_wall),
+    "river": Kind(32, 4, ["--lots", "16", "--rings", "1"], along_river),
+    "plain": Kind(16, 7, ["--lots", "16"], in_rows, asks=False),
 }
 
 

@@ -112,7 +112,7 @@ class Kept(unittest.TestCase):
 
     def test_random_edits_are_told_as_one_process_tells_them(self):
         for name in KINDS:
-            compared(name, 60, 3)
+            compared(name, 30, 3)
 
     def test_processes_that_are_killed_in_the_midst_of_edits(self):
         """Each dies while an edit is worked, and none of them is lost."""
@@ -138,7 +138,7 @@ class Kept(unittest.TestCase):
 
     def test_a_rule_that_one_job_refuses_is_undone_in_all(self):
         beside = self.beside("rows")
-        beside.ask("lot s100 1 8 100 8 10 tower")
+        beside.ask("lot s100 1 8 150 8 10 tower")
         self.assertEqual(beside.ask("drop 8"), (["# refused NoSymbol tower"], {}))
         beside.ask("unlot s100")
         self.assertEqual(beside.ask("drop 8")[0], ["# ok"])
