@@ -33,9 +33,9 @@ class EngineTown(NamedTuple):
         return f"{number:,} lots, {setting.told(self.setting)}{more}"
 
 
-def add_words(known: ArgumentParser) -> None:
+def add_words(known: ArgumentParser, target: str) -> None:
     known.add_argument("town")
-    known.add_argument("target")
+    known.add_argument("target", metavar=target)
     known.add_argument("--instances", action="store_true")
     known.add_argument("--instance", action="append", default=[])
     known.add_argument("--ground")

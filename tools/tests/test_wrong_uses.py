@@ -90,6 +90,12 @@ USES = [  # the words, the status, and a part of what is said
     ("glb v.obj", 2, "TOWN.glb is missing"),
     ("glb v.obj folder", 1, "folder: Is a directory"),
     ("glb --instance wal v.obj x.glb", 1, "symbols that draw are wall"),
+    ("glb --mesh wall=no.obj v.obj x.glb", 1, "no.obj: No such file or directory"),
+    ("glb --gpu-instancing v.obj x.glb", 1, "say --mesh, --instance or --instances as well"),
+    ("usda v.obj", 2, "TOWN.usda is missing"),
+    ("usda --mesh wal=no.obj v.obj x.usda", 1, "symbols that draw are wall"),
+    ("view --mesh wall=v.obj:x v.obj x.html", 2, "isn't SYMBOL=FILE, such as window=window.glb"),
+    ("preview --mesh wall=no.glb rules.cga", 1, "no.glb: No such file or directory"),
 ]
 
 
