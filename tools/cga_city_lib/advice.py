@@ -197,6 +197,8 @@ def within(place):
     ):
         return "conditions and items are grouped by square brackets; round ones hold values"
     head = place.before.split()[0]
+    if head == "lot" and place.word == "turned":
+        return "a lot is turned in a region alone: cut the script by tools/districts"
     if place.is_in_rule() or head not in COMMANDS + COMMANDS_2:
         return ""
     return f"the command is written {FORMS[head]}" if head in FORMS else f"`{head}` stands alone on its line"

@@ -48,7 +48,13 @@ def cut(words):
     with alone(words.folder):
         plan, number = Cut(words.folder, program, region, heads, options, facts).make()
         left = len(todo(words.folder, plan))
-    print(f"{words.folder}: {len(plan.lots)} lots in {len(plan.drawn())} jobs, {left} to run; {kind(asks, number)}")
+    print(
+        f"{words.folder}: {len(plan.lots)} lots in {len(plan.drawn())} jobs{at_angles(plan)}, {left} to run; {kind(asks, number)}"
+    )
+
+
+def at_angles(plan):
+    return f" at {len(plan.angles())} angles" if plan.is_turned() else ""
 
 
 def kind(asks, districts):

@@ -53,9 +53,12 @@ class Plan:
         """The numbers of the rules that ask."""
         return self.heads[0].asks()
 
+    def angles(self):
+        return {job.angle for job in self.jobs}
+
     def is_turned(self):
         """Whether its lots lie at more than one angle."""
-        return len({job.angle for job in self.jobs}) > 1
+        return len(self.angles()) > 1
 
     def drawn(self):
         """The jobs that are of the town itself."""

@@ -2,8 +2,11 @@
 import json
 import unittest
 
+from in_process import called  # first, since it names where the others are
+from defined import by_definition
 from regions import RULES, STAND_IN, RegionTest, asking
 from tiles_reader import read_tileset
+
 
 # at 90 degrees (x, z) of the frame is (-z, x) of the town; at 30 degrees (10, 0) is (10 cos 30, 10 sin 30)
 LOTS = ["lot a 1 10 20 2 3 wall", "lot b 1 10 20 2 3 wall turned 90", "lot c 1 10 0 2 3 wall turned 30"]
@@ -52,8 +55,8 @@ class Angles(RegionTest):
 
     def test_an_edit_makes_the_job_of_its_lot_alone(self):
         self.checked([*RULES, *LOTS])
-        self.cut([*RULES, *LOTS[:2], LOTS[2].replace(" 1 ", " 2 ", 1)])
-        self.assertEqual(len(self.todo()), 1)
+        said = self.cut([*RULES, *LOTS[:2], LOTS[2].replace(" 1 ", " 2 ", 1)])[1]
+        self.assertIn("3 lots in 3 jobs at 3 angles, 1 to run; no rule asks", said)
         job = (self.folder / "jobs" / f"{self.todo()[0]}.cga").read_text()
         self.assertIn("\nlot c 2 10 0 2 3 wall\n", job, "in the frame of its angle")
 
@@ -93,6 +96,14 @@ class Angles(RegionTest):
         }
         for x, z in CORNERS.values():
             self.assertIn((round(float(x), 3), -round(float(z), 3), 0.0), drawn)
+
+    def test_lint_says_what_takes_such_a_lot(self):
+        self.write([*RULES, *LOTS])
+        with by_definition():
+            status, said, _ = called("lint", self.script)
+        self.assertEqual(
+            (status, said.count("a lot is turned in a region alone: cut the script by tools/districts")), (1, 2)
+        )
 
     def test_angles_that_are_none(self):
         for word in ("turned", "turned north", "turned -3", "turned 1e3", "turned 3 4"):
