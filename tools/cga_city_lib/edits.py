@@ -96,9 +96,7 @@ class Ways:
 
     def city(self):
         """In version 2, the edit that sets rules and lots at once; only so lots get another order."""
-        command = self.commands[self.new.block]
-        lots = [self.lines[told.at] for told in self.new.lots.values()]
-        lines = ["city", *self.lines[command.first + 1 : command.last], *lots, "end"]
+        lines = city_block(self.new, self.lines, self.commands[self.new.block])
         self.goes(
             Edit(
                 lines,
@@ -107,6 +105,18 @@ class Ways:
                 lambda sources: (self.set_block(sources), sources.__dict__.update(lots=dict(self.new.lots))),
             )
         )
+
+
+def city_block(sources, lines, command):
+    """In version 2, the block that sets rules and lots at once; those that stand in the script's block stay there."""
+    behind = [lines[told.at] for told in sources.lots.values() if not command.first < told.at < command.last]
+    return ["city", *lines[command.first + 1 : command.last], *behind, "end"]
+
+
+def city_of(sources, lines, command):
+    """The lines that lead to a script's sources from nothing, and how many commands they are."""
+    values = [lines[told.at] for told in sources.attributes.values() if not command.first < told.at < command.last]
+    return [*city_block(sources, lines, command), *values], 1 + len(values)
 
 
 def edits(old, new, lines, commands):

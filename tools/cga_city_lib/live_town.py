@@ -1,7 +1,7 @@
 """The town of a script that is edited, kept by a running program: a save is sent as edits where edits say it."""
 from collections import Counter
 
-from .edits import edits
+from .edits import city_of, edits
 from .live import Live
 from .pipe import Ended
 from .plain_script import Told, sources_of
@@ -24,6 +24,7 @@ class LiveTown:
         self.program, self.shown = program, shown
         self.live, self.held, self.lines, self.answers = None, None, None, []
         self.worked = self.stats = None
+        self.is_fed = False  # whether the program got the script's own lines, so that `undo` means what it means there
         self.changes, self.is_another = Counter(), False
 
     def stop(self):
@@ -88,7 +89,10 @@ class LiveTown:
         """Where the script only grew, what is new is sent."""
         if not self.live or self.lines is None or lines[: len(self.lines)] != self.lines:
             return None
-        new, self.stats = self.feed(self.live, lines, found[len(self.answers) :])
+        behind = found[len(self.answers) :]
+        if not self.is_fed and any(command.words[:1] in (["undo"], ["redo"]) for command in behind):
+            return None
+        new, self.stats = self.feed(self.live, lines, behind)
         self.worked = self.stats.get("expanded", 0) if len(new) == 1 else None
         return self.keep(lines, found, self.answers + new)
 
@@ -98,7 +102,7 @@ class LiveTown:
         planned = edits(self.held, new, lines, found) if self.live and self.held and new else None
         if planned is None or self.is_much(new):
             return None
-        answers, self.held = [["# ok"]] * len(found), self.held.copy()
+        answers, self.held, self.is_fed = [["# ok"]] * len(found), self.held.copy(), False
         for edit, reply in zip(planned, self.tell_all([edit.lines for edit in planned], len(planned) <= FEW)):
             if reply[0] == "# ok":
                 edit.change(self.held)
@@ -119,14 +123,7 @@ class LiveTown:
 
     def anew(self, lines, found, is_open):
         """All is sent to another program; a block that is refused or left open leaves the town that is there."""
-        drawn = Counter()
-
-        def collect(gone, come):
-            drawn.subtract(gone)
-            drawn.update(come)
-
-        live = Live(self.program, collect)
-        answers, stats = self.feed(live, lines, found)
+        live, drawn, answers, stats = self.at_once(lines, found) or self.line_by_line(lines, found)
         is_lost = any(command.is_block and is_refused(answer) for command, answer in zip(found, answers))
         if self.shown.drawn and (is_open or is_lost):
             live.close()
@@ -137,6 +134,36 @@ class LiveTown:
         self.live, self.stats, self.worked = live, stats, None
         self.changes, self.is_another = drawn, True
         return self.keep(lines, found, answers)
+
+    def other(self):
+        """Another program, and what it will tell that is drawn."""
+        drawn = Counter()
+
+        def collect(gone, come):
+            drawn.subtract(gone)
+            drawn.update(come)
+
+        return Live(self.program, collect), drawn
+
+    def line_by_line(self, lines, found):
+        live, drawn = self.other()
+        self.is_fed = True
+        return (live, drawn, *self.feed(live, lines, found))
+
+    def at_once(self, lines, found):
+        """Sends a plain script's sources as one block, which takes less than its lots one by one, or gives nothing where that
+        isn't accepted."""
+        sources = sources_of(lines, found)
+        if not sources or not sources.is_second:
+            return None
+        sent, number = city_of(sources, lines, found[sources.block])
+        live, drawn = self.other()
+        *replies, stats = live.ask(["version 2", *sent, "stats"], 2 + number)
+        if any(reply != ["# ok"] for reply in replies):
+            live.close()
+            return None
+        self.is_fed = False
+        return live, drawn, [["# ok"]] * len(found), counts_of(stats)
 
     # ----
 

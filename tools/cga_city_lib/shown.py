@@ -48,7 +48,7 @@ class Shown:
             self.changed.notify_all()
 
     def note(self, lots: int, symbols: int) -> None:
-        """Keeps which slots changed, for as many changes as are worth it."""
+        """Keeps which slots changed, for the last change and for as many before it as are worth it."""
         slots = {}
         for table in self.drawn.numbered:
             if table.is_new:
@@ -58,7 +58,7 @@ class Shown:
             table.changed = array("I")
         self.log.append(Change(self.number, lots, symbols, slots))
         self.kept += sum(map(len, slots.values()))
-        while self.kept > len(self.drawn.held) + SPARE:
+        while self.kept > len(self.drawn.held) + SPARE and len(self.log) > 1:
             self.kept -= sum(map(len, self.log.popleft().slots.values()))
 
     def replace(self, lines: Iterable[bytes], **head: Any) -> None:

@@ -56,6 +56,18 @@ class Data(unittest.TestCase):
             ["a%20b%20%22%24%26", "%3C%21--%20%3Cscript%3E", "mesh0", "0", "0", "0", "+X+Y+Z", "1", "1", "1"],
         )
 
+    def test_a_change_of_all_is_told_as_a_change(self):
+        """So that it lights up, however large it is; the page that was there before is told no town, but slots."""
+        shown, lines = Shown("town"), [f"a wall cube {at} 0 0 +X+Y+Z 1 {{}} 1" for at in range(11_000)]
+        shown.replace(line.format(1).encode() for line in lines)
+        page = State()
+        page.take(shown.after(""))
+        stamp = page.head["stamp"]
+        shown.replace(line.format(2).encode() for line in lines)
+        page.take(shown.after(stamp))
+        self.assertEqual(page.head["from"], stamp)
+        self.assertEqual(set(page.drawn()), {line.format(2) for line in lines})
+
     def test_a_title_does_not_end_the_script(self):
         text = page(data_of(Town(cubes((0, 0, 0, 1, 1, 1))), "<!-- <script>"))
         (given,) = re.findall(r"^const given = (.*);$", text, re.MULTILINE)

@@ -250,6 +250,18 @@ class Live(Preview):
         """The status and what an address of the panel answers."""
         return self.page.get(f"/{name}", body=json.dumps(words), origin=f"http://127.0.0.1:{self.page.port}")
 
+    def test_undo_takes_back_the_last_line_of_the_file(self):
+        """Whatever was sent meanwhile: at first the file as one block, and then an edit of the first of its lots."""
+        a, b = "a house cube {} 0 0 +X+Y+Z 10 3 8", "b house cube 20 0 0 +X+Y+Z 10 3 8"
+        self.begin("version 2\n" + RULES + A + B)
+        self.then("version 2\n" + RULES + A + B + "undo\n")
+        self.assertEqual(list(self.page.drawn()), [a.format(0)])
+        self.then("version 2\n" + RULES + A + B)
+        self.then("version 2\n" + RULES + A.replace("1 0", "1 5") + B)
+        self.assertEqual(sorted(self.page.drawn()), [a.format(5), b])
+        self.then("version 2\n" + RULES + A.replace("1 0", "1 5") + B + "undo\n")
+        self.assertEqual(list(self.page.drawn()), [a.format(5)])
+
     def test_variants_are_kept_and_compared(self):
         text = RULES + A + B + "# floor house=3\n# variant low h=3\n"
         self.begin(text)
