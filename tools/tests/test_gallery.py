@@ -17,7 +17,7 @@ class Gallery(unittest.TestCase):
         self.assertEqual("".join(part for _, part in found), PAGE)
         self.assertEqual(len({name for name, _ in found}), len(found))
         drawn = [(name, part) for name, part in found if tool["LINES"].search(part)]
-        self.assertEqual([name for name, _ in drawn], ["map", "sheet", "section", "table", "lots"])
+        self.assertEqual([name for name, _ in drawn], ["changes", "map", "sheet", "section", "table", "lots"])
         for name, part in drawn:
             self.assertTrue(re.search(r"\]\(gallery/", part))
             tool["check_size"](name, part)

@@ -15,6 +15,8 @@ from cga_city_lib import by_browser  # noqa: E402
 from cga_city_lib.colours import colour_of  # noqa: E402
 from cga_city_lib.obj import Town  # noqa: E402
 from cga_city_lib.page import data_of  # noqa: E402
+from cga_city_lib.png import chunk  # noqa: E402
+from cga_city_lib.png_palette import Picture, chunks, opened, reduced  # noqa: E402
 from cga_city_lib.render import render, tone  # noqa: E402
 
 
@@ -28,6 +30,40 @@ def wall(turn, size=20):
 
 def pixels(rows):
     return {bytes(row[at : at + 3]) for row in rows for at in range(0, len(row), 3)}
+
+
+def filtered(kind, row, above, step):
+    """A row's bytes by a filter, as the PNG specification says it."""
+
+    def guess(at):
+        left, up, corner = (row[at - step] if at >= step else 0), above[at], above[at - step] if at >= step else 0
+        paeth = min((left, up, corner), key=lambda one: abs(left + up - corner - one))
+        return (0, left, up, (left + up) // 2, paeth)[kind]
+
+    return bytes([kind, *((byte - guess(at)) % 256 for at, byte in enumerate(row))])
+
+
+class Palette(unittest.TestCase):
+    def test_each_filter_is_read(self):
+        rows = [bytes((37 * at * at + 91 * row) % 256 for at in range(4 * 6)) for row in range(6)]
+        data = b"".join(
+            filtered(kind % 5, row, above, 4) for kind, (row, above) in enumerate(zip(rows, [bytes(24), *rows]))
+        )
+        head = (6).to_bytes(4, "big") * 2 + bytes([8, 6, 0, 0, 0])
+        file = b"\x89PNG\r\n\x1a\n" + chunk(b"IHDR", head) + chunk(b"IDAT", zlib.compress(data)) + chunk(b"IEND", b"")
+        wanted = b"".join(row[at : at + 3] for row in rows for at in range(0, 24, 4))
+        self.assertEqual(opened(file), Picture(6, 6, wanted))
+
+    def test_two_pictures_have_one_palette_and_a_frame_each(self):
+        red, blue = Picture(2, 1, bytes([255, 0, 0, 0, 255, 0])), Picture(2, 1, bytes([0, 0, 255, 0, 255, 0]))
+        found = list(chunks(reduced([red, blue], 1.5)))
+        self.assertEqual([name for name, _ in found], b"IHDR acTL PLTE fcTL IDAT fcTL fdAT IEND".split())
+        parts = [part for _, part in found]
+        self.assertEqual([int.from_bytes(parts[at][:4], "big") for at in (3, 5, 6)], [0, 1, 2])
+        self.assertEqual(parts[3][20:24], b"\x05\xdc\x03\xe8")
+        colours = [parts[2][at : at + 3] for at in range(0, len(parts[2]), 3)]
+        seen = [[colours[number] for number in zlib.decompress(packed)[1:]] for packed in (parts[4], parts[6][4:])]
+        self.assertEqual(seen, [[b"\xff\0\0", b"\0\xff\0"], [b"\0\0\xff", b"\0\xff\0"]])
 
 
 class Shadows(unittest.TestCase):
