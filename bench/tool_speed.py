@@ -26,6 +26,7 @@ CALLS: Dict[str, List[str]] = {
     "merge": ["tools/merge", "TOWN", "merged.obj"],
     "glb": ["tools/glb", "TOWN", "town.glb"],
     "glb --instances": ["tools/glb", "--instances", "TOWN", "instances.glb"],
+    "glb --instances --gpu-instancing": ["tools/glb", "--instances", "--gpu-instancing", "TOWN", "packed.glb"],
     "view": ["tools/view", "TOWN", "town.html"],
     "plan": ["tools/plan", "TOWN"],
     "section": ["tools/plan", "TOWN", "--section", "0,30,600,31"],
