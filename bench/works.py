@@ -114,6 +114,22 @@ def chains():
     return city(f"{rules}lot a 1 0 0 10 10 c\nlot b 1 20 0 10 10 c\n") + "lot b 1 5 0 10 10 c\n"
 
 
+def links(depth, priority):
+    """Four lots over each other, each a chain of links with six shapes that ask, below a start symbol of this priority."""
+    asks = "ask " * 6
+    rules = f"""PRIORITY {priority}:
+1: start -> S(1r, h, 1r) link
+PRIORITY 1:
+2: link : Scope.sx > 1 -> {asks}S(Scope.sx - 1, 1r, 1r) link
+3: link -> NIL
+PRIORITY 0:
+4: ask : Scope.occ("active") == "none" -> I("cube")
+5: ask -> NIL
+"""
+    lots = "".join(f"lot l{place} 1 {place} 0 {depth + 1} 10 start\n" for place in range(4))
+    return city(f"attr h = 1\n{rules}{lots}")
+
+
 def judged(lots):
     """A block that is to be judged: the trace of a town, as a program writes it."""
     return lambda reply: "judge\n" + reply(town(lots) + "trace\n") + "end\n"
@@ -153,6 +169,9 @@ def grammars():
     for order in ("breadth", "depth"):
         yield Work(LINE, f"doubled up to the budget, {order}", "", [doubled(order)])
     yield Work(LINE, "two chains of depth 256 that ask", "", [chains()])
+    for priority in (0, 2):
+        yield Work(LINE, f"four chains of 64 links, below a priority of {priority}", "", [links(64, priority)])
+    yield Work(EDIT, "an attribute of these chains", links(64, 2), by_turns("attr h = 2\n", "attr h = 1\n"))
 
 
 def texts():

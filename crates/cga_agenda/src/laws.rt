@@ -7,7 +7,7 @@ ghost use Rattle.cga_agenda.specs.Laws.{WorkBegins, TurnsKeepWorking, WorkIsExac
 ghost use Rattle.cga_agenda.specs.Laws.{RecordBegins, TurnsKeepRecord, RecordIsExact};
 ghost use Rattle.cga_agenda.specs.Laws.{KnownGrows, OverBudgetIsExact, BelowIsLate};
 
-/// The roots that went and came, and the first agenda, begin the work.
+/// The removed and created roots, and the first agenda, begin the work.
 pub fn work_begins<N, A, B, F, P>()
     ensures { WorkBegins N A B F P }
 {}
@@ -22,12 +22,12 @@ pub fn work_is_exact<N, A, B, F, P>()
     ensures { WorkIsExact N A B F P }
 {}
 
-/// The record begins with what went with the old roots.
+/// The record begins with the nodes that are removed with the old roots.
 pub fn record_begins<N, A, B, F, P>()
     ensures { RecordBegins N A B F P }
 {}
 
-/// A turn adds to the record what went and came.
+/// A turn adds the removed and created nodes to the record.
 pub fn turns_keep_record<N, A, B, F, P>()
     ensures { TurnsKeepRecord N A B F P }
 {}
@@ -43,7 +43,7 @@ pub fn known_grows<N, A, B, F, P>()
 {}
 
 /// Where more is known, or had its turn, than the budget allows, the new derivation is over it; at
-/// an empty agenda it is so exactly where there are more nodes.
+/// an empty agenda it is so if and only if there are more nodes.
 pub fn over_budget_is_exact<N, A, B, F, P>()
     ensures { OverBudgetIsExact N A B F P }
 {}
@@ -55,7 +55,7 @@ pub fn a_lot_comes()
 {}
 
 /// The premises can be met: where the priority of one child's symbol changes, its parent's turn
-/// places it anew, and its own turn expands it.
+/// places it again, and its own turn expands it.
 pub fn example_works()
     ensures { ExampleWorks }
 {}

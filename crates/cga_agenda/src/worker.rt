@@ -7,7 +7,7 @@ use cga_fraction::{NoMemory, Steps, Tests};
 use std::sync::ledger::Ledger;
 
 /// What does the turns of an agenda. It keeps the nodes of a derivation, of which some are on the
-/// agenda, and the record of what went and came.
+/// agenda, and the record of removed and created nodes.
 pub trait Worker {
     /// What a tick of the counter of expansions wants to be shown.
     type Key;

@@ -78,7 +78,7 @@ impl City {
         }
     }
 
-    /// Does an edit: the sources are the new ones exactly where it answers Ok. Each expansion of a shape ticks
+    /// Does an edit: the sources are the new ones if and only if it answers Ok. Each expansion of a shape ticks
     /// `expansions`, as often as shapes are touched. After want of memory the city may be cold. Takes memory.
     pub fn edit<E: Ledger, T: Ledger>(
         &mut self,

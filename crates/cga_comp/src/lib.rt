@@ -3,7 +3,7 @@
 //! It must not know symbols, rules or solids.
 //!
 //! What callers get wrong: a scope that is flat along one axis has edges and vertices, but no faces; edges are then
-//! numbered anew, from 1 to 4.
+//! numbered again, from 1 to 4.
 #![tactic(auto)]
 
 mod flat_scope;

@@ -1,4 +1,4 @@
-//! What came and went of the nodes of symbols, and what it makes of dependents.
+//! The created and removed nodes of symbols, and what they make of dependents.
 ghost use Rattle.std.specs.Prelude.{◌≡◌, ℕ, List, OnOk, if◌then◌else◌, true, false};
 ghost use Rattle.cga_depend.specs.Log.{IsApplied, is_pair, lists, noted};
 

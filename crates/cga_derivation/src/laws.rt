@@ -26,7 +26,7 @@ pub fn members_stand_in_order<N, A, F, P>()
     ensures { MembersStandInOrder N A F P }
 {}
 
-/// `derive` is none exactly where some configuration has more members than the budget, and else the
+/// `derive` is none if and only if some configuration has more members than the budget, and else the
 /// configuration in which nothing waits.
 pub fn derive_says<N, A, F, P>()
     ensures { DeriveSays N A F P }

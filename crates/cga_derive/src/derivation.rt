@@ -14,7 +14,7 @@ use std::alloc::Global;
 use std::sync::ledger::Ledger;
 
 /// The derivation of sources from nothing: the roots in lot order, and then all others in order of
-/// emission. `OverBudget` comes exactly where it comes to more shapes than the budget.
+/// emission. `OverBudget` comes if and only if there are more shapes than the budget.
 ///
 /// Each expansion ticks `expansions`. `tests` counts boxes that a walk of hulls reads, and there is
 /// none here. Takes memory for the list and for the shapes that wait. The time goes by the number of

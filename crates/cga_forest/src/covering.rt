@@ -32,7 +32,7 @@ fn cover_places(blocks: &mut Blocks, store: &Store, roots: &MarkedMap, from: usi
     }
 }
 
-/// Makes all blocks anew.
+/// Makes all blocks again.
 pub fn cover_all(blocks: &mut Blocks, store: &Store, roots: &MarkedMap)
     ensures { AreCovered blocks.new roots.now.list (λ c. hulls_of (at store.now c)) }
 {
@@ -41,7 +41,7 @@ pub fn cover_all(blocks: &mut Blocks, store: &Store, roots: &MarkedMap)
     blocks.rest();
 }
 
-/// Makes a block anew.
+/// Makes a block again.
 fn renew(blocks: &mut Blocks, store: &Store, roots: &MarkedMap, block: usize)
     requires { AreCovered blocks.old roots.now.list (λ c. hulls_of (at store.now c)) }
     ensures { AreCovered blocks.new roots.now.list (λ c. hulls_of (at store.now c)) }
@@ -55,7 +55,7 @@ fn renew(blocks: &mut Blocks, store: &Store, roots: &MarkedMap, block: usize)
     }
 }
 
-/// Makes the blocks of a group anew that took hulls in. Answers whether there were some.
+/// Makes those blocks of a group again that took hulls in. Answers whether there were some.
 fn renew_loose(blocks: &mut Blocks, store: &Store, roots: &MarkedMap, group: usize) -> bool
     requires group { 16 * group + 16 < 2 ^ 64 }
     requires covered { AreCovered blocks.old roots.now.list (λ c. hulls_of (at store.now c)) }
@@ -71,7 +71,7 @@ fn renew_loose(blocks: &mut Blocks, store: &Store, roots: &MarkedMap, group: usi
     some
 }
 
-/// Makes the blocks of a group anew that took hulls in, and then the group of its blocks.
+/// Makes those blocks of a group again that took hulls in, and then the group of its blocks.
 #[tactic(auto, using(crate::proofs::Covered::covered_gathered))]
 fn tighten_group(blocks: &mut Blocks, store: &Store, roots: &MarkedMap, group: usize)
     requires group { 16 * group + 16 < 2 ^ 64 }
@@ -83,7 +83,7 @@ fn tighten_group(blocks: &mut Blocks, store: &Store, roots: &MarkedMap, group: u
     }
 }
 
-/// Makes the blocks anew that took hulls in, and their groups, so that they hold no more than they have to. Each other
+/// Makes the blocks again that took hulls in, and their groups, so that they hold no more than they have to. Each other
 /// block is asked for its note alone.
 pub fn tighten(blocks: &mut Blocks, store: &Store, roots: &MarkedMap)
     requires { AreCovered blocks.old roots.now.list (λ c. hulls_of (at store.now c)) }

@@ -114,7 +114,7 @@ impl Forest {
         self.store.shown()
     }
 
-    /// None exactly where there is none.
+    /// None if and only if there is none.
     pub fn node(&self, id: NodeId) -> Option<&Node>
         ensures { option_copied result ≡ content_of (node_at self.now id) }
     {

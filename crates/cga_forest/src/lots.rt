@@ -21,7 +21,7 @@ use cga_shape::Lot;
 use cga_word::Name;
 
 impl Forest {
-    /// The root of the lot of that name. None exactly where no such lot is there. It is found without a walk.
+    /// The root of the lot of that name. None if and only if no such lot is there. It is found without a walk.
     pub fn root_of(&self, name: Name) -> Option<NodeId>
         ensures { (c : ℕ) → (result ≡ Some c) ↔ IsRootOf (node_at self.now) name c }
     {
@@ -76,8 +76,8 @@ impl Forest {
         Ok(NodeId::new(root as u64))
     }
 
-    /// Takes the nodes of the lot of that name away. False exactly where no such lot is there. While a mark stands, their
-    /// numbers aren't given out again, also those of nodes that came after the mark.
+    /// Takes the nodes of the lot of that name away. False if and only if no such lot is there. While a mark stands, their
+    /// numbers aren't given out again, also those of nodes that were created after the mark.
     pub fn remove_lot(&mut self, name: Name) -> bool
         ensures absent { result ≡ false → HasNoLot self.old name }
         ensures same { result ≡ false → self.new ≡ self.old }

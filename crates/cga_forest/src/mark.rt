@@ -18,7 +18,7 @@ impl Forest {
     }
 
     /// Drops the mark, and what was set aside since: from now on the numbers of those nodes may be given out again. The
-    /// time goes by what went or came since the mark, and by the blocks whose hulls changed.
+    /// time goes by the nodes that were removed or created since the mark, and by the blocks whose hulls changed.
     pub fn settle(&mut self)
         requires marked { self.old.marking ≡ true }
         ensures marking { self.new.marking ≡ false }

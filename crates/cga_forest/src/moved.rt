@@ -8,7 +8,7 @@ use cga_index::NodeId;
 use cga_shape::Kind;
 use cga_word::{Name, Primitive};
 
-/// A node that went or came, and what of it is asked once it may be gone.
+/// A removed or created node, and what of it is asked once it may be gone.
 #[derive(Clone, Copy, Debug)]
 pub struct Moved {
     pub id: NodeId,

@@ -134,7 +134,7 @@ pub fn parent_at(store: &Store, id: usize) -> Option<usize>
     }
 }
 
-/// Gives a node another state and other children, by a plan, and lists in it what came. The room is there already. Answers
+/// Gives a node another state and other children, by a plan, and lists in it the created nodes. The room is there already. Answers
 /// the root, where its hulls changed.
 pub fn replace(
     store: &mut Store,

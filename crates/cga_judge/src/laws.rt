@@ -2,7 +2,7 @@
 //! proof can cite.
 ghost use Rattle.cga_judge.specs.Laws.{RunEnds, RunIsOne};
 
-/// Sources have one run, so that a trace is accepted exactly where it is that.
+/// Sources have one run, so a trace is accepted if and only if it is that run.
 pub fn run_is_one()
     ensures { RunIsOne }
 {}

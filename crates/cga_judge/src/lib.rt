@@ -1,6 +1,6 @@
 //! The judge of a trace: whether given steps are the run of sources.
 //!
-//! It must not know kept trees, hulls, edits or texts. The sources are derived anew, each query over the whole list,
+//! It must not know kept trees, hulls, edits or texts. The sources are derived from nothing, each query over the whole list,
 //! and each step is compared with the given one.
 //!
 //! What callers get wrong: steps that are right one by one, in another order than that of the derivation, are rejected.

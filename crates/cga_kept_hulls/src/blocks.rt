@@ -13,7 +13,7 @@ use std::alloc::Global;
 pub struct Blocks {
     pub blocks: Level,
     pub groups: Level,
-    /// Which blocks took hulls in since they were last made anew.
+    /// Which blocks took hulls in since they were last made.
     loose: Vec<bool>,
 }
 
@@ -98,7 +98,7 @@ impl Blocks {
         }
     }
 
-    /// Makes a group anew, of its blocks.
+    /// Makes a group again, of its blocks.
     pub fn gather(&mut self, group: usize)
         requires { 16 * group + 16 < 2 ^ 64 }
         ensures kept { (place : ℕ) (h : Hulls) → place / 16 < length self.old.blocks.hulls.items → IsHeld self.old place h → IsHeld self.new place h }

@@ -104,14 +104,15 @@ pub fn roll_back_listed<E: Marked>(entries: &mut CountedSlab<E>, list: &[usize])
     }
 }
 
-/// Gives room back where half of it is empty, and as many entries were looked at as there are: then a walk over all of it costs
-/// no more than what is done. Where each entry is made anew, the new ones take other numbers; once they go in their turn, the
-/// room behind the old numbers is empty.
+/// Gives room back if a quarter of it is empty, and if no fewer entries were looked at than there are: a walk over all of it then
+/// costs no more than the edit did. An edit that makes each entry again gives the new ones other numbers. Once a later edit
+/// removes these in their turn, the room behind the old numbers is empty.
 pub fn give_back<E: Marked>(entries: &mut CountedSlab<E>, looked_at: usize)
     ensures { (c : ℕ) → get entries.new c ≡ get entries.old c }
 {
     let count = entries.len();
-    if count <= looked_at && count <= entries.capacity() / 2 {
+    let room = entries.capacity();
+    if count <= looked_at && count <= room - room / 4 {
         entries.shrink();
     }
 }

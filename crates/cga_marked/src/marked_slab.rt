@@ -84,7 +84,7 @@ impl<E: Marked> MarkedSlab<E> {
         Ok(())
     }
 
-    /// Adds an entry, for which there is room. It is touched exactly where a mark stands.
+    /// Adds an entry, for which there is room. It is touched if and only if a mark stands.
     pub fn add(&mut self, marking: bool, entry: E) -> usize
         requires room { HasRoom self.old 1 }
         requires touched { E.touched entry ≡ marking }

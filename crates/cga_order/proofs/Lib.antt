@@ -3,6 +3,7 @@ mod Heads
 mod Order
 mod Prefixes
 mod Tops
+mod Shared
 mod ChildHeads
 mod Chains
 mod Members

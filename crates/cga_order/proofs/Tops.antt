@@ -59,6 +59,13 @@ ranks_from-all chain whole =
     let z : 0 + suc (length chain.path) ≡ suc (length chain.path) = omega arith in
     ap (ranks_run chain 0) e ∙ ranks_run-all chain 0 (suc (length chain.path)) ∙ ap (ranks_down chain) z
 
+-- the ranks down to some depth, and those from there on
+pub ranks-split : (chain : Chain) (depth : ℕ) → IsWhole chain → depth ≤ length chain.priorities
+    → ranks_down chain depth ++ ranks_from chain depth ≡ ranks chain
+ranks-split chain depth whole within =
+    let sum : depth + (length chain.priorities - depth) ≡ suc (length chain.path) = omega (arith, whole, within) in
+    ranks_run-all chain depth (length chain.priorities - depth) ∙ ap (ranks_down chain) sum
+
 then_less : (a b : Ordering) → a ≡ Less → ordering_then a b ≡ Less
 then_less a b e = ap (λ c. ordering_then c b) e
 
@@ -86,7 +93,7 @@ rank_at-depth Depth chain i j e h within =
     then_equal _ _ _ (nat_cmp-same _ _ e) (then_equal _ _ _ (tied_itself nat_list_cmp_total chain.lot) (paths ∙ nat_cmp-less i j h))
 
 -- the ranks from some depth on have paths as long as their depths
-In-ranks_run : (mode : Mode) (chain : Chain) (depth n : ℕ) (q : Rank)
+pub In-ranks_run : (mode : Mode) (chain : Chain) (depth n : ℕ) (q : Rank)
     → stamps.In (rank_cmp mode) (rank_total mode) q (ranks_run chain depth n)
     → (j : ℕ) × (depth ≤ j) × (j < depth + n) × (q ≡ rank_at chain j)
 In-ranks_run mode chain depth zero q i = absurd i
@@ -155,7 +162,7 @@ none : (mode : Mode) (chain : Chain) (depth : ℕ) → length chain.priorities �
 none mode chain depth past = ap (maxima (rank_cmp mode)) (ranks_from-end chain depth past)
 
 -- the tops are the first of the maxima
-heads_cmp-tops : (mode : Mode) (a b : Chain) (depth : ℕ) (left right : Option ℕ) → IsTop mode a depth left
+pub heads_cmp-tops : (mode : Mode) (a b : Chain) (depth : ℕ) (left right : Option ℕ) → IsTop mode a depth left
     → IsTop mode b depth right
     → heads.heads_cmp (rank_cmp mode) (rank_total mode) (maxima (rank_cmp mode) (ranks_from a depth))
     (maxima (rank_cmp mode) (ranks_from b depth)) ≡ tops_cmp mode a left b right

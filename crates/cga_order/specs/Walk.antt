@@ -6,7 +6,7 @@ use Rattle.std.specs.Ordering.{nat_cmp}
 use Rattle.std.specs.Cmp.Lexicographic.{slice_cmp}
 use Rattle.cga_word.specs.declared.mode.Mode.{Mode}
 use Rattle.cga_order.specs.Rank.{Rank, rank_cmp}
-use Rattle.cga_order.specs.Chain.{Chain, rank_at}
+use Rattle.cga_order.specs.Chain.{Chain, rank_at, ranks_down}
 use Rattle.cga_order.specs.Stamp.{maxima}
 use Rattle.cga_order.specs.declared.walk.Parting.{Parting}
 
@@ -21,6 +21,12 @@ pub record IsCommonLength (xs ys : List ℕ) (common : ℕ) : Type 0 where
 pub record IsParting (a b : Chain) (parting : Parting) : Type 0 where
   pub lots : parting.lots ≡ slice_cmp nat_cmp a.lot b.lot
   pub common : IsCommonLength a.path b.path parting.common
+
+-- from the root down so many ranks of two chains are the same
+pub record SharesRanks (a b : Chain) (shared : ℕ) : Type 0 where
+  pub left : shared ≤ length a.priorities
+  pub right : shared ≤ length b.priorities
+  pub same : ranks_down a shared ≡ ranks_down b shared
 
 -- so many ranks of a chain, from this depth on
 abbrev pub ranks_run : Chain → ℕ → ℕ → List Rank

@@ -61,7 +61,7 @@ pub fn derived_is_consistent<N, A, F, P>()
     ensures { DerivedIsConsistent N A F P }
 {}
 
-/// A turn of an agenda that queues each later shape that sees what came or went leaves every node
+/// A turn of an agenda that queues each later shape that sees a created or removed shape leaves every node
 /// right, or queued.
 pub fn turns_keep_right<N, A, F, P>()
     ensures { TurnsKeepRight N A F P }

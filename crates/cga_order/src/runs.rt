@@ -7,13 +7,32 @@ ghost use lib.Pointwise.{pointwise};
 
 use std::cmp::Ordering;
 
+/// So many steps are compared at a time, since no step ends such a comparison.
+const GROUP: usize = 16;
+
 /// In how many numbers two runs agree.
 pub(crate) fn common_length(xs: &[u16], ys: &[u16]) -> usize
     ensures { IsCommonLength xs.now ys.now result }
 {
-    let mut common = 0;
+    let mut common = common_groups(xs, ys);
     while common < xs.len() && common < ys.len() && xs[common] == ys[common] {
         common += 1;
+    }
+    common
+}
+
+/// A number of steps in which two runs agree: so many whole groups from the first on.
+fn common_groups(xs: &[u16], ys: &[u16]) -> usize
+    ensures left { result ≤ length xs.now }
+    ensures right { result ≤ length ys.now }
+    ensures same { take result xs.now ≡ take result ys.now }
+{
+    let mut common = 0;
+    let shorter = xs.len().min(ys.len());
+    while GROUP <= shorter - common
+        && same_steps(&xs[common..common + GROUP], &ys[common..common + GROUP])
+    {
+        common += GROUP;
     }
     common
 }

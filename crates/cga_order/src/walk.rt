@@ -6,7 +6,7 @@ ghost use Rattle.cga_order.specs.Chain.{IsWhole, rank_at};
 ghost use Rattle.cga_order.specs.Rank.{rank_cmp};
 ghost use Rattle.cga_order.specs.Seen.{chain_of};
 ghost use Rattle.cga_order.specs.Stamp.{stamp_cmp};
-ghost use Rattle.cga_order.specs.Walk.{IsCommonLength, IsParting, IsTop, IsWithin, tops_cmp};
+ghost use Rattle.cga_order.specs.Walk.{IsParting, IsTop, IsWithin, SharesRanks, tops_cmp};
 
 use crate::chain::Chain;
 use crate::runs::{cmp_prefixes, common_length, same_steps};
@@ -51,16 +51,56 @@ fn is_alike(a: &Chain, b: &Chain) -> bool
     same_steps(a.path, b.path) && same_steps(a.priorities, b.priorities) && a.lot == b.lot
 }
 
-/// Two chains of one head are mostly those of one shape, and then no ranks are compared.
+/// Two chains of one head, so of one lot, are mostly those of one shape, and then no ranks are compared. Else they have ancestors in
+/// common, and mostly the greatest ranks below these decide.
 fn cmp_whole(mode: Mode, a: &Chain, b: &Chain) -> Ordering
     requires left { IsWhole (chain_of a.now) }
     requires right { IsWhole (chain_of b.now) }
+    requires lots { a.now.lot ≡ b.now.lot }
     ensures { result ≡ stamp_cmp mode (chain_of a.now) (chain_of b.now) }
 {
     if is_alike(a, b) {
         return Ordering::Equal;
     }
-    cmp_by_walk(mode, a, b)
+    let parting = parting_of(a, b);
+    let shared = shared_ranks(parting, a, b);
+    match cmp_tops(
+        mode,
+        parting,
+        a,
+        top_from(a, shared),
+        b,
+        top_from(b, shared),
+    ) {
+        Ordering::Equal => cmp_by_walk(mode, parting, a, b),
+        decided => decided,
+    }
+}
+
+/// From the root down so many ranks of two chains of a lot are the same.
+fn shared_ranks(parting: Parting, a: &Chain, b: &Chain) -> usize
+    requires parting { IsParting (chain_of a.now) (chain_of b.now) parting }
+    requires left { IsWhole (chain_of a.now) }
+    requires right { IsWhole (chain_of b.now) }
+    requires lots { a.now.lot ≡ b.now.lot }
+    ensures { SharesRanks (chain_of a.now) (chain_of b.now) result }
+{
+    common_length(a.priorities, b.priorities).min(parting.common + 1)
+}
+
+/// At which depth the greatest rank of those from a depth on is.
+fn top_from(chain: &Chain, from: usize) -> Option<usize>
+    requires whole { IsWhole (chain_of chain.now) }
+    requires within { from ≤ length chain.now.priorities.now }
+    ensures { (mode : Mode) → IsTop mode (chain_of chain.now) from result }
+{
+    let mut top_below = None;
+    let mut depth = chain.priorities.len();
+    while depth > from {
+        depth -= 1;
+        top_below = top(chain, depth, top_below);
+    }
+    top_below
 }
 
 /// Depths count in the mode Breadth alone.
@@ -95,18 +135,18 @@ fn cmp_places(a: &Chain, i: usize, b: &Chain, j: usize) -> Ordering
     ensures { result ≡ ordering_then (slice_cmp nat_cmp a.now.lot b.now.lot) (slice_cmp nat_cmp (take i a.now.path.now) (take j b.now.path.now)) }
 {
     match a.lot.cmp(&b.lot) {
-        Ordering::Equal => cmp_prefixes(a.path, i, b.path, j, common_length(a.path, b.path)),
+        Ordering::Equal => a.path[..i].cmp(&b.path[..j]),
         decided => decided,
     }
 }
 
 /// The same by all ranks, from the deepest up.
-fn cmp_by_walk(mode: Mode, a: &Chain, b: &Chain) -> Ordering
+fn cmp_by_walk(mode: Mode, parting: Parting, a: &Chain, b: &Chain) -> Ordering
+    requires parting { IsParting (chain_of a.now) (chain_of b.now) parting }
     requires left { IsWhole (chain_of a.now) }
     requires right { IsWhole (chain_of b.now) }
     ensures { result ≡ stamp_cmp mode (chain_of a.now) (chain_of b.now) }
 {
-    let parting = parting_of(a, b);
     let mut order = Ordering::Equal;
     let mut left = None;
     let mut right = None;
@@ -121,10 +161,11 @@ fn cmp_by_walk(mode: Mode, a: &Chain, b: &Chain) -> Ordering
 }
 
 fn parting_of(a: &Chain, b: &Chain) -> Parting
+    requires lots { a.now.lot ≡ b.now.lot }
     ensures { IsParting (chain_of a.now) (chain_of b.now) result }
 {
     Parting {
-        lots: a.lot.cmp(&b.lot),
+        lots: Ordering::Equal,
         common: common_length(a.path, b.path),
     }
 }

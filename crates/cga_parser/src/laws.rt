@@ -33,7 +33,7 @@ pub fn tells_once()
     ensures lines { (lines : List Line) (a b : Result Grammar BlockFault) → GrammarTells lines a → GrammarTells lines b → a ≡ b }
 {}
 
-/// A line says `end` exactly where it ends its block.
+/// A line says `end` if and only if it ends its block.
 pub fn says_end()
     ensures { (line : Line) → EndsBlock line ↔ BlockTells line (Ok (Some End)) }
 {}

@@ -36,7 +36,7 @@ pub fn known_is_over<S, A, B, F, P>()
     ensures { KnownIsOver S A B F P }
 {}
 
-/// Over ranked shapes a configuration has more members than the budget exactly where `derive` is
+/// Over ranked shapes a configuration has more members than the budget if and only if `derive` is
 /// none.
 pub fn over_is_none<S, A, B, F, P>()
     ensures { OverIsNone S A B F P }
@@ -102,7 +102,7 @@ pub fn entries_number<K>()
     ensures { EntriesNumber K }
 {}
 
-/// The roots that went and came, and the first agenda, begin the work.
+/// The removed and created roots, and the first agenda, begin the work.
 pub fn roots_begin<X, S, A, B, F, P>()
     ensures { RootsBegin X S A B F P }
 {}
@@ -117,7 +117,7 @@ pub fn roots_add_up<X, S, A, F, P>()
     ensures { RootsAddUp X S A F P }
 {}
 
-/// The instances that went and came, each once, are a change.
+/// The removed and created instances, each once, are a change.
 pub fn lists_are_changes<X, S, A, B, F, P>()
     ensures { ListsAreChanges X S A B F P }
 {}
@@ -138,7 +138,7 @@ pub fn stands_again<X, S, A, B, F, P>()
 {}
 
 /// The premises of a turn can be met: where the priority of a child's symbol changed, its parent's turn
-/// places it anew.
+/// places it again.
 pub fn tree_turns()
     ensures { TreeTurns }
 {}
