@@ -3,6 +3,7 @@ pub mod Collect
 pub mod Scopes
 pub mod Walk
 pub mod Stops
+pub mod Places
 pub mod Rules
 pub mod Choices
 pub mod Expand

@@ -2,14 +2,14 @@
 ghost use Rattle.std.specs.Prelude.{◌≡◌, MatchResult};
 ghost use Rattle.cga_expr.specs.Names.{seen};
 ghost use Rattle.cga_expand.specs.Choices.{comes_first, found_of, tried};
-ghost use Rattle.cga_expand.specs.Expand.{rules_by_id};
+ghost use Rattle.cga_check.specs.Groups.{by_id, rules_of};
 ghost use Rattle.cga_expand.specs.Rules.{chosen, known_to, optional_holds};
 
 use crate::choice::Choice;
 use crate::faults::or_expr;
 use cga_expr::{Names, holds};
 use cga_fraction::SharedBox;
-use cga_rule::{Attribute, Cond, Grammar, Rule};
+use cga_rule::{Attribute, Cond, Entry, Rule};
 use cga_shape::{Answers, Shape, ShapeFault};
 
 pub(crate) fn names_of<'a>(
@@ -73,23 +73,23 @@ fn tried<'a>(
     }
 }
 
-/// The first rule of the shape's symbol by rising id whose condition holds. The rules stand in any
-/// order; the condition of one that comes behind the choice so far isn't looked at.
+/// The first rule of the shape's symbol by rising id whose condition holds. The entries stand in any order, and some may
+/// be of other symbols; the condition of a rule that comes behind the choice so far isn't looked at.
 pub(crate) fn chosen_rule<'a>(
-    grammar: &'a Grammar,
+    attributes: &[Attribute],
+    entries: &'a [Entry],
     shape: &Shape,
     answers: &Answers,
 ) -> Result<&'a Rule, ShapeFault>
     ensures { MatchResult result
-        (λ rule. chosen grammar.now.attributes shape.now answers.now (rules_by_id grammar.now shape.now.symbol) ≡ Ok rule.now)
-        (λ fault. chosen grammar.now.attributes shape.now answers.now (rules_by_id grammar.now shape.now.symbol) ≡ Err fault) }
+        (λ rule. chosen attributes.now shape.now answers.now (by_id (rules_of entries.now shape.now.symbol)) ≡ Ok rule.now)
+        (λ fault. chosen attributes.now shape.now answers.now (by_id (rules_of entries.now shape.now.symbol)) ≡ Err fault) }
 {
-    let attributes = grammar.attributes.as_slice();
     let mut choice = Choice {
         id: None,
         rule: Err(ShapeFault::Unmatched),
     };
-    for entry in grammar.rules.as_slice() {
+    for entry in entries {
         if entry.rule.symbol == shape.symbol {
             choice = tried(attributes, shape, answers, choice, &entry.rule);
         }

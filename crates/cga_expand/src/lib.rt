@@ -6,6 +6,7 @@
 //! What callers get wrong: the order. A fault comes where it stands in the text, and nothing is emitted then.
 #![tactic(auto)]
 
+mod by_place;
 mod choice;
 mod choose;
 pub mod derivations;
@@ -14,10 +15,12 @@ mod faults;
 pub mod laws;
 pub mod limits;
 mod parts;
+mod places;
 mod rules;
 mod scopes;
 mod state;
 mod walk;
 
-pub use rules::{ExpandKey, Expansions, expand};
+pub use by_place::RulesByPlace;
+pub use rules::{ExpandKey, Expansions, expand, expand_by_place};
 pub use state::State;

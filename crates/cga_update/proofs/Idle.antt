@@ -51,6 +51,7 @@ module _ (was : Work) (rest : AgendaView) (edit : TheEdit) (s : TheState) (means
     gone = means.gone;
     come = means.come;
     symbols = means.symbols;
+    rules = means.rules;
     grammars = means.grammars;
     marked = means.marked;
     logged = means.logged;

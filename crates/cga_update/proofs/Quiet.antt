@@ -106,6 +106,7 @@ module _ (was now : Work) (rest : AgendaView) (id : ℕ) (x : Chain) (edit : The
       gone = means.gone;
       come = means.come;
       symbols = means.symbols;
+      rules = means.rules;
       grammars = means.grammars;
       marked = means.marked;
       logged = means.logged;

@@ -52,7 +52,7 @@ RightOf w id told right = (d : Seen) → node_at w.forest id ≡ Some d → righ
 
 abbrev ExpandsAt : Work → Work → ℕ → Answers → Turned → Type 0
 ExpandsAt w now id answers turned = (outcome : Outcome) × HasPlaced w now id answers outcome
-    × ((d : Seen) → node_at w.forest id ≡ Some d → outcome ≡ expand_of w.renewal.new.now.grammar d.node.shape answers)
+    × ((d : Seen) → node_at w.forest id ≡ Some d → outcome ≡ expand_of w.rules d.node.shape answers)
     × (turned.expanded ≡ true) × (turned.children ≡ length (emitted outcome))
 
 abbrev PlacesAt : Work → Work → ℕ → Answers → Turned → Type 0
@@ -94,7 +94,7 @@ module _ (was : Work) (id : ℕ) (told : Said) (facts : Facts) (answers : Answer
         p.3,
         record {
           must = elim (changed here.0 here.1 so) [ inl w ↦ inl w | inr f ↦ inr (λ s. f (are.setting.1 (same_is_setting was.renewal.old.now.grammar g symbol s.0), s.1)) ];
-          value = p.2 here.0 here.1;
+          value = p.2 here.0 here.1 ∙ ap (λ (h : Grammar). expand_of h here.0.node.shape answers) may.rules;
           count = p.4;
         },
       );

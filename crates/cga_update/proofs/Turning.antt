@@ -288,6 +288,7 @@ module _ (was now : Work) (rest : AgendaView) (id : ℕ) (x : Chain) (turned : T
     gone = turn.placed.1.gone ∙ (λ i. means.gone i ++ sym went.2 i) ∙ sym (map_both told_ranked s.gone went.0);
     come = turn.placed.1.come ∙ (λ i. means.come i ++ sym came.2 i) ∙ sym (map_both told_ranked s.come came.0);
     symbols = to_new (λ b. now.symbols ≡ b.now.grammar) (turn.placed.1.bounds.symbols ∙ means.symbols);
+    rules = to_new (λ b. now.rules ≡ b.now.grammar) (turn.placed.1.bounds.rules ∙ means.rules);
     grammars = to_new (λ b. now.grammars ≡ both now.renewal.old.now.grammar b.now.grammar) (to_old (λ b. now.grammars ≡ both b.now.grammar g) (turn.placed.1.bounds.grammars ∙ means.grammars));
     marked = turn.placed.1.bounds.mark.0 ∙ means.marked;
     logged = λ name c. log_is name c ∙ (λ i. noted_all (sym turn.placed.1.log i) name c (is_of (sym (turn.placed.1.bounds.mark.1 means.marked c) i) name));

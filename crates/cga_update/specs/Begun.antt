@@ -44,6 +44,7 @@ pub record IsFresh (w : Work) : Type 0 where
   pub mode : w.agenda.mode ≡ w.renewal.new.now.mode
   pub remembered : w.remembered ≡ []
   pub symbols : w.symbols ≡ w.renewal.new.now.grammar
+  pub rules : w.rules ≡ w.renewal.new.now.grammar
   pub grammars : w.grammars ≡ both w.renewal.old.now.grammar w.renewal.new.now.grammar
   pub log : w.log.items ≡ []
   pub gone : w.gone.items ≡ []

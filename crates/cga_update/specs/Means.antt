@@ -58,6 +58,7 @@ pub record Means (w : Work) (edit : Edit (Ranked Shape) Answers Setting ShapeFau
   pub gone : w.gone.items ≡ map told_ranked s.gone
   pub come : w.come.items ≡ map told_ranked s.come
   pub symbols : w.symbols ≡ w.renewal.new.now.grammar
+  pub rules : w.rules ≡ w.renewal.new.now.grammar
   pub grammars : w.grammars ≡ both w.renewal.old.now.grammar w.renewal.new.now.grammar
   -- the log makes the nodes of each symbol of those at the mark
   pub marked : w.forest.marking ≡ true
@@ -71,6 +72,7 @@ pub record KeepsBounds (was now : Work) : Type 0 where
   pub mode : now.forest.mode ≡ was.forest.mode
   pub mark : KeepsMark was.forest now.forest
   pub symbols : now.symbols ≡ was.symbols
+  pub rules : now.rules ≡ was.rules
   pub grammars : now.grammars ≡ was.grammars
   pub all_came : now.all_came ≡ was.all_came
   pub priced : now.priced ≡ was.priced

@@ -142,5 +142,6 @@ IsTurned was now id turned = IsPlacing was now id turned ⊎ IsQuiet was now id 
 pub record MayTurn (w : Work) : Type 0 where
   pub mode : w.forest.mode ≡ w.renewal.new.now.mode
   pub symbols : w.symbols ≡ w.renewal.new.now.grammar
+  pub rules : w.rules ≡ w.renewal.new.now.grammar
   pub grammars : w.grammars ≡ both w.renewal.old.now.grammar w.renewal.new.now.grammar
   pub plain : (c : ℕ) (d : Seen) → node_at w.forest c ≡ Some d → IsPlain d

@@ -13,6 +13,7 @@ use crate::roots::{add_roots, remove_roots};
 use crate::work::Work;
 use cga_check::Symbols;
 use cga_depend::Dependents;
+use cga_expand::RulesByPlace;
 use cga_forest::{Forest, Moved};
 use cga_fraction::{NoMemory, Tests};
 use cga_queue::{Agenda, Last, Remembered};
@@ -124,6 +125,7 @@ pub fn begun<'a, T: Ledger>(
         log: Vec::new(alloc),
         gone: Vec::new(alloc),
         come: Vec::new(alloc),
+        rules: RulesByPlace::new(alloc, &renewal.new.grammar),
         renewal,
     };
     match begin(&mut work, dependents, tests) {

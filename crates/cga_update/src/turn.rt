@@ -22,7 +22,7 @@ use crate::work::Work;
 use crate::worked::Worked;
 use cga_agenda::Turned;
 use cga_check::Said;
-use cga_expand::{Expansions, expand};
+use cga_expand::{Expansions, expand_by_place};
 use cga_forest::{Forest, Node};
 use cga_fraction::{List, NoMemory, Tests};
 use cga_index::NodeId;
@@ -91,7 +91,8 @@ fn symbol_at(forest: &Forest, id: NodeId) -> Name
     }
 }
 
-/// What the new grammar says of a node's symbol. Takes memory where the symbol comes for the first time.
+/// What the new grammar says of a node's symbol, whose rules are found. Takes memory where the symbol comes for the first
+/// time.
 fn said_at(work: &mut Work, id: NodeId) -> Result<Said, NoMemory>
     requires here { IsSome (node_at work.now.forest id) }
     ensures told { IfOk result (λ told. (d : Seen) → node_at work.entry.now.forest id ≡ Some d
@@ -99,6 +100,7 @@ fn said_at(work: &mut Work, id: NodeId) -> Result<Said, NoMemory>
     ensures same { work.exit.now ≡ work.entry.now }
 {
     let symbol = symbol_at(&work.forest, id);
+    work.rules.find(symbol)?;
     work.symbols.of(symbol)
 }
 
@@ -166,18 +168,12 @@ fn outcome_of<E: Ledger>(
 ) -> Result<Result<List<Emitted>, ShapeFault>, NoMemory>
     requires here { IsSome (node_at work.now.forest id) }
     ensures value { IfOk result (λ made. (d : Seen) → node_at work.now.forest id ≡ Some d
-        → made ≡ expand_of work.now.renewal.new.now.grammar d.node.shape answers.now) }
+        → made ≡ expand_of work.now.rules d.node.shape answers.now) }
     ensures few { IfOk result (λ made. length (emitted made) ≤ MOST_CHILDREN) }
     ensures ticked { expansions.new ≡ expansions.old + 1 }
 {
     match work.forest.node(id) {
-        Some(node) => expand(
-            work.alloc,
-            &work.renewal.new.grammar,
-            &node.shape,
-            answers,
-            expansions,
-        ),
+        Some(node) => expand_by_place(work.alloc, &work.rules, &node.shape, answers, expansions),
         None => unreachable!(),
     }
 }
@@ -192,7 +188,7 @@ fn expand_at<E: Ledger, T: Ledger>(
 ) -> Result<Turned, NoMemory>
     requires here { (e : Seen) × (node_at work.now.forest id ≡ Some e) × (world.is_instance e.node.kind ≡ false) }
     ensures placed { IfOk result (λ turned. (outcome : Outcome) × HasPlaced work.entry.now work.exit.now id answers outcome
-        × ((d : Seen) → node_at work.entry.now.forest id ≡ Some d → outcome ≡ expand_of work.entry.now.renewal.new.now.grammar d.node.shape answers)
+        × ((d : Seen) → node_at work.entry.now.forest id ≡ Some d → outcome ≡ expand_of work.entry.now.rules d.node.shape answers)
         × (turned.expanded ≡ true) × (turned.children ≡ length (emitted outcome))) }
     ensures ticked { expansions.new ≡ expansions.old + 1 }
     ensures bounds { KeepsBounds work.entry.now work.exit.now }

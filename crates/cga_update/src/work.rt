@@ -1,6 +1,7 @@
 use crate::renewal::Renewal;
 use cga_check::Symbols;
 use cga_depend::Pairing;
+use cga_expand::RulesByPlace;
 use cga_forest::Forest;
 use cga_queue::{Agenda, Last, Remembered};
 use cga_same::Grammars;
@@ -29,5 +30,7 @@ pub struct Work<'a> {
     pub(crate) log: Vec<Pairing>,
     pub(crate) gone: Vec<Drawn>,
     pub(crate) come: Vec<Drawn>,
+    /// The new grammar, with the places of the rules of the symbols that had a turn.
+    pub(crate) rules: RulesByPlace<'a>,
     pub(crate) renewal: Renewal<'a>,
 }

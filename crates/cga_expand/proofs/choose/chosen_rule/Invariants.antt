@@ -5,5 +5,5 @@ use Rattle.cga_expand.proofs.choose.chosen_rule.Given as goal
 
 abbrev pub invariant-loop-entry : goal.invariant-loop-entry
 invariant-loop-entry l =
-    tried_all l.fn.grammar.attributes l.shape l.answers (found_of l.choice) (rules_of (drop l.entry-index l.entry-items) l.shape.symbol)
-    ≡ tried_all l.fn.grammar.attributes l.fn.shape l.fn.answers nothing (rules_of l.fn.grammar.rules l.fn.shape.symbol)
+    tried_all l.attributes l.shape l.answers (found_of l.choice) (rules_of (drop l.entry-index l.entries) l.shape.symbol)
+    ≡ tried_all l.fn.attributes l.fn.shape l.fn.answers nothing (rules_of l.fn.entries l.fn.shape.symbol)

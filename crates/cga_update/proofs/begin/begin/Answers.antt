@@ -111,6 +111,7 @@ returns-clause-begun g c =
         come = drawn_from c.note_came.new.come.items c.args.work.now.come.items c.as_slice-came_nodes.result.now came c.in_ok-note_came.ensures.come c.requires.fresh.come c.as_slice-came_nodes.ensures.value
             ∙ proof.came_drawn start;
         symbols = c.last_asker.ensures.symbols ∙ known;
+        rules = c.requires.fresh.rules;
         grammars = c.queue_changed.ensures.grammars ∙ grammars;
         marked = r.marking;
         logged = subst (λ (log : List Pairing). IsLogged (marked_at v) (node_at v) log)

@@ -11,4 +11,5 @@ begin-requires-clause-fresh g c = record {
   log = c.new-5.ensures.items;
   gone = c.new-6.ensures.items;
   come = c.new-7.ensures.items;
+  rules = c.new-8.ensures;
 }

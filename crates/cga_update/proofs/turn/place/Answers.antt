@@ -42,6 +42,7 @@ returns-clause-placed g c =
           mode = done.mode;
           mark = done.mark;
           symbols = done.symbols;
+          rules = refl;
           grammars = refl;
           all_came = refl;
           priced = refl;

@@ -24,7 +24,7 @@ returns-in_ok-turn_of-in-Some-clause-turned g c = λ edit s means.
     let least = c.in-Some.ensures.taken in
     let turned = c.in_ok-turn_of-in-Some.field-0 in
     let done = c.in_ok-turn_of-in-Some.ensures in
-    elim (done.turned (record { mode = means.mode; symbols = means.symbols; grammars = means.grammars; plain = means.plain })) [
+    elim (done.turned (record { mode = means.mode; symbols = means.symbols; rules = means.rules; grammars = means.grammars; plain = means.plain })) [
       | inl placing ↦ turn_means was c.turn_of.new.work rest c.in-Some.id least.0 turned edit s means c.laws.ensures least.1 less forgot placing c.args.expansions.now c.turn_of.new.expansions done.called
       | inr quiet ↦ quiet_means was c.turn_of.new.work rest c.in-Some.id least.0 edit s means least.1 less forgot turned quiet c.args.expansions.now c.turn_of.new.expansions done.called
     ]
