@@ -39,8 +39,11 @@ use Rattle.cga_top.specs.Told.{command_of, grammar_told, sources_told}
 use Rattle.cga_top.specs.State.{Block, State, of_asset, of_city, of_judge, of_rules, start}
 use Rattle.cga_undo.specs.History.{Kept, Step, redone, undone}
 use Rattle.cga_live.specs.Live.{drawn_at}
-use Rattle.cga_live.specs.Runs.{IsUnbegun}
 use Rattle.cga_fraction.proofs.Door.{and_first as first_of}
+
+-- where only blank lines came, there is nothing yet
+abbrev pub IsUnbegun : State → Type 0
+IsUnbegun s = s.fresh ≡ true → (s.sources ≡ empty_sources) × (s.block ≡ None)
 
 -- what an effect changed accounts for what is drawn before and after it, and it is the first line as before
 record IsFair (s : State) (e : Effect) : Type 0 where

@@ -1,7 +1,4 @@
 mod Balanced
 mod Turns
-mod Lived
-mod Reading
-mod FirstLines
-mod Ends
+mod Living
 mod Wanting

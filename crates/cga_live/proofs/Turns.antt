@@ -1,34 +1,16 @@
 -- Turns one after another.
-use Rattle.std.proofs.Common.{◌≡◌, ◌∙◌, ℕ, ◌+◌, ◌-◌, zero, suc, List, [], ◌∷◌, ◌++◌, Bool, refl, sym, ap, subst, take, append_assoc, arith}
+use Rattle.std.proofs.Common.{◌≡◌, ◌∙◌, ℕ, ◌+◌, ◌-◌, zero, suc, List, [], ◌∷◌, ◌++◌, Bool, refl, sym, ap, take, arith}
 use Rattle.std.specs.Prelude.{count_by}
 use Rattle.cga_city.specs.City.{empty_sources}
 use Rattle.cga_city.specs.Derived.{members}
-use Rattle.cga_delta.specs.Text.{delta_text_of}
-use Rattle.cga_script.specs.Lines.{Line}
 use Rattle.cga_shape.specs.declared.drawn.Drawn.{Drawn}
 use Rattle.cga_top.specs.Effect.{Effect}
 use Rattle.cga_top.specs.Output.{effect_of_all}
 use Rattle.cga_top.specs.Replies.{budget_of, effect}
 use Rattle.cga_top.specs.State.{State, start}
 use Rattle.cga_top.proofs.Door.{all_more, all_none, nothing_drawn}
-use Rattle.cga_live.specs.Live.{AreTold, Follows, Having, Turn, after, applied, drawn_at, lines_in, nothing, replies_of, text_of}
-
-pub lines_more : (xs ys : List Turn) → lines_in (xs ++ ys) ≡ lines_in xs ++ lines_in ys
-lines_more [] ys = refl
-lines_more (x ∷ xs) ys = ap (λ (lines : List Line). x.line ∷ lines) (lines_more xs ys)
-
-pub told_more : (s : State) (xs ys : List Turn) → AreTold s xs → AreTold (after s xs) ys → AreTold s (xs ++ ys)
-told_more s [] ys p q = subst (λ (e : Effect). AreTold e.state ys) (all_none s) q
-told_more s (x ∷ xs) ys p q = (p.0, told_more (effect s x.line).state xs ys p.1 (subst (λ (e : Effect). AreTold e.state ys) (all_more s x.line (lines_in xs)) q))
-
-pub text_more : (s : State) (xs ys : List Turn) → text_of s (xs ++ ys) ≡ text_of s xs ++ text_of (after s xs) ys
-text_more s [] ys = ap (λ (e : Effect). text_of e.state ys) (sym (all_none s))
-text_more s (x ∷ xs) ys =
-    let first : List ℕ = (effect s x.line).reply ++ delta_text_of x.changes in
-    let more : List ℕ = text_of (effect s x.line).state xs in
-    ap (λ (r : List ℕ). first ++ r) (text_more (effect s x.line).state xs ys)
-    ∙ sym (append_assoc first more (text_of (after (effect s x.line).state xs) ys))
-    ∙ ap (λ (e : Effect). (first ++ more) ++ text_of e.state ys) (sym (all_more s x.line (lines_in xs)))
+use Rattle.cga_live.specs.Live.{AreTold, Follows, Having, applied, drawn_at, nothing, replies_of}
+use Rattle.cga_top.specs.Turns.{Turn, after, lines_in}
 
 pub replies_all : (s : State) (xs : List Turn) → replies_of s xs ≡ (effect_of_all s (lines_in xs)).reply
 replies_all s [] = ap (λ (e : Effect). e.reply) (sym (all_none s))

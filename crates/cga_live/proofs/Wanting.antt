@@ -7,7 +7,7 @@ use Rattle.cga_words.specs.Exits.{line_of}
 use Rattle.cga_words.specs.declared.program_name.ProgramName.TheVariants.{Live}
 use Rattle.cga_words.specs.declared.status.Status.TheVariants.{NoMemory}
 use Rattle.clap.specs.Words.{Text}
-use Rattle.cga_live.proofs.Ends.{none_means}
+use Rattle.cga_live.proofs.Living.{unbegun_means}
 use Rattle.cga_live.specs.Program.{IsEnd}
 
 pub wanting : (texts : List Text) (o : Outside) (number : ℕ) (line : List ℕ) → number ≡ 6
@@ -16,7 +16,7 @@ wanting texts o number line n l = record {
   status = NoMemory;
   number_is = n;
   line_is = l;
-  means = none_means usual o;
+  means = unbegun_means usual o;
   given = λ zero. absurd (omega (arith, n, zero));
   headline = λ zero. absurd (omega (arith, n, zero));
   usage = λ e. absurd (memory_not_used e);

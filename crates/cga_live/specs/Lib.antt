@@ -1,4 +1,3 @@
 pub mod Live
 pub mod Means
-pub mod Runs
 pub mod Program

@@ -1,27 +1,14 @@
 -- What is written of a script: the reply to each line, and behind it what the line changed.
-use Rattle.std.specs.Prelude.{◌≡◌, ℕ, ◌+◌, ◌-◌, List, [], ◌∷◌, ◌++◌, map, take, Bool, count_by}
+use Rattle.std.specs.Prelude.{◌≡◌, ℕ, ◌+◌, ◌-◌, List, [], ◌∷◌, ◌++◌, take, Bool, count_by}
 use Rattle.cga_bill.specs.Bill.{Balances}
 use Rattle.cga_city.specs.Lots.{names_of}
 use Rattle.cga_delta.specs.Text.{delta_text_of}
-use Rattle.cga_script.specs.Lines.{Line, cut, clipped, lines_of}
-use Rattle.cga_shape.specs.declared.changes.Changes.{Changes}
 use Rattle.cga_shape.specs.declared.drawn.Drawn.{Drawn}
 use Rattle.cga_top.specs.Changed.{HasChanged}
-use Rattle.cga_top.specs.Output.{effect_of_all, output_of}
-use Rattle.cga_top.specs.Replies.{at_end, drawn_by, effect}
+use Rattle.cga_top.specs.Output.{output_of}
+use Rattle.cga_top.specs.Replies.{drawn_by, effect}
 use Rattle.cga_top.specs.State.{State, start}
-
--- a line, and what is told that it changed
-pub record Turn : Type 0 where
-  pub line : Line
-  pub changes : Changes
-
-abbrev pub lines_in : List Turn → List Line
-lines_in turns = map (λ turn. turn.line) turns
-
--- what the lines of turns come to
-abbrev pub after : State → List Turn → State
-after s turns = (effect_of_all s (lines_in turns)).state
+use Rattle.cga_top.specs.Turns.{Turn, after, all_lines, end_of, lines_in, text_by}
 
 -- what a `print` draws, of all lots
 abbrev pub drawn_at : State → List Drawn
@@ -42,26 +29,12 @@ AreTold s (turn ∷ turns) = IsTold s turn × AreTold (effect s turn.line).state
 
 -- of each turn the reply to its line, and then the text of what it changed
 abbrev pub text_of : State → List Turn → List ℕ
-text_of s [] = []
-text_of s (turn ∷ turns) = ((effect s turn.line).reply ++ delta_text_of turn.changes) ++ text_of (effect s turn.line).state turns
+text_of = text_by delta_text_of
 
 -- the replies alone
 abbrev pub replies_of : State → List Turn → List ℕ
 replies_of s [] = []
 replies_of s (turn ∷ turns) = (effect s turn.line).reply ++ replies_of (effect s turn.line).state turns
-
--- what stands after the last LF is a line where it isn't empty, and keeps its CR
-abbrev pub last_of : List ℕ → List Line
-last_of [] = []
-last_of (byte ∷ bytes) = clipped (byte ∷ bytes) ∷ []
-
--- the lines of a script
-abbrev pub all_lines : List ℕ → List Line
-all_lines bytes = lines_of bytes ++ last_of (cut bytes).rest
-
--- the reply to the end of a script
-abbrev pub end_of : ℕ → List ℕ → List ℕ
-end_of decimals bytes = (at_end (effect_of_all (start decimals) (all_lines bytes)).state).reply
 
 -- ---- who applies what is told
 

@@ -1,5 +1,5 @@
 -- What the statuses of a run mean.
-use Rattle.std.specs.Prelude.{◌≡◌, ℕ, ◌+◌, ◌≤◌, ◌<◌, List, [], ◌∷◌, ◌++◌, length, take, IsTrue, IfSome}
+use Rattle.std.specs.Prelude.{◌≡◌, ℕ, ◌+◌, ◌≤◌, ◌<◌, List, ◌++◌, length, take, IsTrue, IfSome}
 use Rattle.std.specs.Io.KnownBytes.{Appends, IsAtEnd}
 use Rattle.cga_outside.specs.Causes.{Rose}
 use Rattle.cga_script.specs.Lines.{Line, lines_of}
@@ -9,9 +9,11 @@ use Rattle.cga_top.specs.Output.{effect_of_lines, effect_of_script}
 use Rattle.cga_top.specs.Outside.{Gave, Outside, IsCalm}
 use Rattle.cga_top.specs.Prefixes.{AppendsSome}
 use Rattle.cga_top.specs.Reads.{limit, read_limit}
+use Rattle.cga_top.specs.Lived.{behind_all}
 use Rattle.cga_top.specs.State.{start}
 use Rattle.cga_top.specs.Statuses.{Spent}
-use Rattle.cga_live.specs.Live.{AreTold, IsLiveOf, Turn, all_lines, end_of, lines_in, text_of}
+use Rattle.cga_top.specs.Turns.{Turn, all_lines, end_of, lines_in}
+use Rattle.cga_live.specs.Live.{AreTold, IsLiveOf, text_of}
 
 -- the script is within the limit, and all of it was replied to and told
 pub record TellsAll (decimals : ℕ) (bytes : List ℕ) (old new : Outside) : Type 0 where
@@ -29,11 +31,6 @@ pub record TellsLines (decimals : ℕ) (read : List ℕ) (old new : Outside) : T
   pub told : AreTold (start decimals) turns
   pub written : Appends old.held new.held (text_of (start decimals) turns)
   pub spent : Spent (effect_of_lines decimals (take limit read)) old new
-
--- nothing while lines are left
-abbrev pub behind_all : List Line → List ℕ → List ℕ
-behind_all [] text = text
-behind_all (line ∷ lines) text = []
 
 -- what was written begins what is told of the script's first lines, and of its end where no line is left
 pub record TellsSome (decimals : ℕ) (bytes : List ℕ) (old new : Outside) : Type 0 where

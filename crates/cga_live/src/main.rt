@@ -1,15 +1,14 @@
 //! A program beside `cga_city`: it replies to a script in the same way, and after the reply to each accepted edit tells
 //! which instances went and which came by it.
 //!
-//! It must not know rules, lots or how an edit is worked. It knows the system's input and output and lines one after
-//! another. Whoever applies what is told to the instances that are kept, none at first, has those that a `print` would
+//! It must not know rules, lots, lines or how an edit is worked. It gives the run of a script what is told of changes.
+//! Whoever applies what is told to the instances that are kept, none at first, has those that a `print` would
 //! draw.
 //!
 //! What callers get wrong: without the exit status 0 the last of what was told may be there in part.
 #![tactic(auto)]
 
-mod lines;
-mod script;
+mod changed;
 
 ghost use Rattle.std.specs.Prelude.{◌≡◌, ◌≢◌, ◌<◌, ◌⊎◌, ◌++◌, List, ℕ, [], ◌∷◌, map, string_bytes, IfErr, IfOk, IfSome};
 ghost use Rattle.std.specs.Io.KnownBytes.{Appends};
@@ -26,11 +25,11 @@ ghost use Rattle.cga_words.specs.Exits.{line_in, refusal_line, refusal_of};
 ghost use Rattle.cga_words.specs.Words.{wordless_app};
 ghost use Rattle.clap.specs.Words.{fault_of};
 
-use crate::script::run_live;
+use crate::changed::Changed;
 use cga_expand::Expansions;
 use cga_fraction::{NoMemory, Tests};
 use cga_outside::{BufferedSink, Sink, Source, StdSink, StdSource};
-use cga_top::Status;
+use cga_top::{Decimals, Status, run_script};
 use cga_words::{Exit, ProgramName, WordsFault, end, exit_of, given_words, read_none};
 use std::alloc::Global;
 use std::env::Args;
@@ -87,7 +86,8 @@ fn run<S: Source, K: Sink, E: Ledger, T: Ledger>(
         Err(WordsFault::Usage) => return Status::Usage,
         Err(WordsFault::NoMemory) => return Status::NoMemory,
     }
-    run_live(alloc, script, out, expansions, tests)
+    let decimals = Decimals::new(6);
+    run_script::<Changed, _, _, _, _>(alloc, decimals, script, out, expansions, tests)
 }
 
 // The whole program but for the system's own part: reads the words, replies to the script and tells it, and says how it

@@ -9,6 +9,8 @@ use Rattle.cga_words.specs.declared.status.Status.TheVariants.{Done, Usage, Read
 use Rattle.cga_top.specs.Reads.{limit}
 use Rattle.cga_top.specs.Outside.{Outside}
 use Rattle.cga_top.specs.Statuses.{StatusMeans, HoldsFew}
+use Rattle.cga_top.specs.Talks.{TalkMeans}
+use Rattle.cga_top.specs.Turns.{Talk}
 use Rattle.cga_top.proofs.Ends.{all_taken}
 
 not_so_long : (bytes read : List ℕ) (left : Option (List ℕ)) → Consumes (Some bytes) left read
@@ -21,6 +23,17 @@ pub few_given : (script left : Option (List ℕ)) (read : List ℕ) → Consumes
     → limit < length read → ⊥
 few_given None left read p few many = few
 few_given (Some bytes) left read p few many = not_so_long bytes read left p many few
+
+pub talk_complete : (told : Talk) (d : ℕ) (status : Status) (old new : Outside) → TalkMeans told d status old new
+    → HoldsFew old.left
+    → (Rose old.reads_failed new.reads_failed → ⊥) → (Rose old.writes_failed new.writes_failed → ⊥) → status ≢ Usage
+    → (status ≡ Done) ⊎ (status ≡ NoMemory)
+talk_complete told d Done old new m few calm silent used = inl refl
+talk_complete told d NoMemory old new m few calm silent used = inr refl
+talk_complete told d ReadFault old new m few calm silent used = absurd (calm m.0)
+talk_complete told d WriteFault old new m few calm silent used = absurd (silent m.0)
+talk_complete told d TooLong old new m few calm silent used = absurd (few_given old.left new.left m.2.0 m.2.3.gave.taken few m.2.1)
+talk_complete told d Usage old new m few calm silent used = absurd (used refl)
 
 pub complete_of : (d : ℕ) (status : Status) (old new : Outside) → StatusMeans d status old new → HoldsFew old.left
     → (Rose old.reads_failed new.reads_failed → ⊥) → (Rose old.writes_failed new.writes_failed → ⊥) → status ≢ Usage

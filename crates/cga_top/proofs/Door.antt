@@ -6,21 +6,15 @@ pub use Rattle.cga_top.proofs.Asks.{asks_written, city_is, city_told, city_writt
 pub use Rattle.cga_top.proofs.Numbers.{distinct}
 -- The bill goes with the changes of an edit
 pub use Rattle.cga_top.proofs.Bills.{nothing_drawn}
--- Completeness and the headline, from what the statuses mean
-pub use Rattle.cga_top.proofs.Complete.{done_not_used, few_given, long_not_used, not_used, of_left, read_not_used}
+-- The headline, from what the statuses mean
+pub use Rattle.cga_top.proofs.Complete.{of_left}
 -- Lines one after another
-pub use Rattle.cga_top.proofs.Effects.{all_append, all_none, followed_assoc, some_after, some_more, some_nothing, spent_more, spent_then, all_more, followed_silent}
--- The end of a script
-pub use Rattle.cga_top.proofs.Ends.{IsFlushed, SameSource, all_taken, by_bytes, flushed_as, start_pending}
--- What a source gave, over several reads
-pub use Rattle.cga_top.proofs.Gives.{gave_kept, gave_more, gave_none, gave_nothing, gave_same, same_more}
+pub use Rattle.cga_top.proofs.Effects.{all_append, all_more, all_none, followed_silent}
+-- The end of a run
+pub use Rattle.cga_top.proofs.Ends.{none_means}
 -- The run that wants memory at once
 pub use Rattle.cga_top.proofs.Given.{unbegun_run}
--- Known bytes that are appended in several steps
-pub use Rattle.cga_top.proofs.Known.{appends_more, appends_all, appends_nothing}
--- One more read
-pub use Rattle.cga_top.proofs.Reading.{lines_more, pending_is, is_part}
--- Counts of faults over several calls
-pub use Rattle.cga_top.proofs.Faults.{faults_since}
--- The lines of a piece, one after another
-pub use Rattle.cga_top.proofs.Pieces.{left_cleared, left_kept, lines_kept_none, no_more_left, no_more_lines, nothing_left, part_cleared, part_kept}
+-- A fact of what the source tells
+pub use Rattle.cga_top.proofs.Silent.{known_more}
+-- What all lines of a script do
+pub use Rattle.cga_top.proofs.WholeScript.{output_is}

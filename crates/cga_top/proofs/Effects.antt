@@ -5,16 +5,12 @@ use Rattle.std.proofs.lemmas.List.{append-nil}
 use Rattle.std.proofs.Math.Seq.{take-append-add}
 use Rattle.std.specs.Io.KnownBytes.{Appends}
 use Rattle.cga_script.specs.Lines.{Line}
-use Rattle.cga_top.specs.declared.session.Session.{Session}
-use Rattle.cga_shape.specs.declared.changes.Changes.{Changes}
 use Rattle.cga_top.specs.State.{State}
 use Rattle.cga_top.specs.Effect.{Effect, HasSpent, SpentOn, Work, followed_by, silent}
 use Rattle.cga_top.specs.Replies.{effect}
 use Rattle.cga_top.specs.Output.{effect_of_all}
-use Rattle.cga_top.specs.Session.{IsAt, Did}
-use Rattle.cga_top.specs.Wrote.{Wrote}
 use Rattle.cga_top.specs.Prefixes.{AppendsSome}
-use Rattle.cga_top.proofs.Known.{appends_nothing, appends_more}
+use Rattle.cga_top.proofs.Known.{appends_more}
 
 abbrev made : State → List ℕ → List Work → Effect
 made s text works = record { state = s; reply = text; works = works }
@@ -64,24 +60,6 @@ all_append s (x ∷ xs) ys =
 -- and nothing was expanded behind them
 pub spent_then : (ts : List Work) (i j k : ℕ) → k ≡ j → HasSpent ts i j → HasSpent ts i k
 spent_then ts i j k e h = subst (λ n. HasSpent ts i n) (sym e) h
-
--- what was done, and then more
-pub wrote_more : (t u : Effect) (old mid : Session) (a b c : Option (List ℕ)) (i j k : ℕ) → Wrote t old a b i j
-    → Wrote u mid b c j k → Wrote (followed_by t u) mid a c i k
-wrote_more t u old mid a b c i j k x y = record {
-  is_at = y.is_at;
-  written = appends_more a b c t.reply u.reply x.written y.written;
-  spent = spent_more t.works u.works i j k x.spent y.spent;
-}
-
-pub wrote_nothing : (s : State) (session : Session) (a : Option (List ℕ)) (i : ℕ) → IsAt s session
-    → Wrote (silent s) session a a i i
-wrote_nothing s session a i st = record { is_at = st; written = appends_nothing a; spent = refl }
-
--- a reply that was written
-pub wrote_reply : (t : Effect) (was : Changes) (session : Session) (text : List ℕ) (a b : Option (List ℕ)) (i j : ℕ)
-    → Did t was session text i j → Appends a b text → Wrote t session a b i j
-wrote_reply t was session text a b i j did w = record { is_at = did.is_at; written = subst (Appends a b) did.reply w; spent = did.spent }
 
 -- Nothing is a part of each text.
 pub some_nothing : (a : Option (List ℕ)) (text : List ℕ) → AppendsSome a a text

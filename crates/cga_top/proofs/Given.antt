@@ -2,6 +2,7 @@
 use Rattle.std.proofs.Common.{◌≡◌, ◌≢◌, ◌∙◌, ◌⊎◌, inl, inr, ℕ, ◌++◌, List, [], Option, None, Some, refl, sym, ap, subst}
 use Rattle.std.proofs.Math.Seq.{take-nil}
 use Rattle.std.specs.Prelude.{IfSome}
+use Rattle.std.proofs.lemmas.List.{append-nil}
 use Rattle.std.proofs.lemmas.List.Elements.{All-nil}
 use Rattle.std.specs.Io.KnownBytes.{Appends}
 use Rattle.cga_outside.specs.Causes.{Rose}
@@ -10,21 +11,24 @@ use Rattle.cga_script.specs.Pending.{Pending, kept_of}
 use Rattle.cga_script.proofs.Door.{rest_of_part}
 use Rattle.cga_words.specs.Town.{town_text}
 use Rattle.cga_top.specs.declared.halt.Halt.{Halt}
-use Rattle.cga_top.specs.declared.halt.Halt.TheVariants as cause
 use Rattle.cga_top.specs.declared.session.Session.{Session}
+use Rattle.cga_top.specs.declared.halt.Halt.TheVariants as cause
 use Rattle.cga_words.specs.declared.status.Status.{Status}
 use Rattle.cga_words.specs.declared.status.Status.TheVariants.{Done, Usage, ReadFault, WriteFault, TooLong, NoMemory}
 use Rattle.cga_top.specs.State.{start}
-use Rattle.cga_top.specs.Output.{effect_of_all, effect_of_lines, effect_of_script, last_effect, output_of}
+use Rattle.cga_top.specs.Effect.{HasSpent}
+use Rattle.cga_top.specs.Lived.{Begun, Lived}
+use Rattle.cga_top.specs.Output.{effect_of_script, output_of}
 use Rattle.cga_top.specs.Outside.{Outside}
 use Rattle.cga_top.specs.Faults.{FaultsAt}
 use Rattle.cga_top.specs.Prefixes.{AppendsSome}
 use Rattle.cga_top.specs.Reads.{pending_after}
 use Rattle.cga_top.specs.Runs.{GivenMeans, RunMeans, HoldsFewOr, IsScript, script_of}
-use Rattle.cga_top.specs.Wrote.{Wrote}
 use Rattle.cga_top.proofs.Complete.{complete_of, given_of, headline_of}
-use Rattle.cga_top.proofs.Effects.{spent_then, some_after, some_more, some_nothing}
-use Rattle.cga_top.proofs.Ends.{IsFlushed, all_of_it, some_kept, unbegun_means}
+use Rattle.cga_top.proofs.Effects.{spent_then, some_nothing}
+use Rattle.cga_top.proofs.Ends.{IsFlushed, all_of_it, some_kept}
+use Rattle.cga_top.proofs.Silent.{nothing_told, unbegun_means, writes_some}
+use Rattle.cga_top.proofs.WholeScript.{says_first}
 use Rattle.cga_top.proofs.Gives.{gave_nothing}
 
 -- no run was begun, for want of memory
@@ -39,34 +43,27 @@ pub none_kept : (p : Pending) → p ≡ pending_after [] → p.kept ≡ []
 none_kept p e = ap (λ (q : Pending). q.kept) e ∙ ap kept_of (rest_of_part [] (All-nil (λ (b : ℕ). b ≢ 10))) ∙ take-nil 4098
 
 -- behind nothing that was kept
-pub behind_none : (d : ℕ) (kept bytes : List ℕ) → kept ≡ []
-    → effect_of_all (start d) (lines_of (kept ++ bytes)) ≡ effect_of_lines d bytes
-behind_none d kept bytes e = ap (λ (k : List ℕ). effect_of_all (start d) (lines_of (k ++ bytes))) e
+pub given_lived : (d : ℕ) (kept bytes : List ℕ) (session : Session) (a b : Option (List ℕ)) (i j : ℕ) → kept ≡ []
+    → Lived nothing_told (start d) (lines_of (kept ++ bytes)) session a b i j
+    → Lived nothing_told (start d) (lines_of bytes) session a b i j
+given_lived d kept bytes session a b i j e p =
+    subst (λ (k : List ℕ). Lived nothing_told (start d) (lines_of (k ++ bytes)) session a b i j) e p
 
 pub rest_kept : (kept bytes p : List ℕ) → kept ≡ [] → p ≡ kept_of (cut (kept ++ bytes)).rest
     → p ≡ kept_of (cut bytes).rest
 rest_kept kept bytes p e h = h ∙ ap (λ (k : List ℕ). kept_of (cut (k ++ bytes)).rest) e
 
-pub some_given : (d : ℕ) (bytes : List ℕ) (a b : Option (List ℕ)) → AppendsSome a b (effect_of_lines d bytes).reply
-    → AppendsSome a b (output_of d bytes)
-unfolding output_of
-some_given d bytes a b s = some_more a b (effect_of_lines d bytes).reply _ s
+pub some_given : (d : ℕ) (kept bytes : List ℕ) (a b : Option (List ℕ)) → kept ≡ []
+    → Begun nothing_told (start d) (lines_of (kept ++ bytes)) a b → AppendsSome a b (output_of d bytes)
+some_given d kept bytes a b e p =
+    let begun = subst (λ (k : List ℕ). Begun nothing_told (start d) (lines_of (k ++ bytes)) a b) e p in
+    writes_some d bytes a b (says_first nothing_told d bytes bytes [] a b (sym (append-nil bytes)) begun)
 
-pub more_given : (d : ℕ) (bytes : List ℕ) (a b c : Option (List ℕ)) → Appends a b (effect_of_lines d bytes).reply
-    → AppendsSome b c (last_effect (effect_of_lines d bytes).state (cut bytes).rest).reply
-    → AppendsSome a c (output_of d bytes)
-unfolding output_of
-more_given d bytes a b c w s = some_after a b c (effect_of_lines d bytes).reply _ w s
-
-output_is : (d : ℕ) (bytes : List ℕ) → (effect_of_script d bytes).reply ≡ output_of d bytes
-unfolding output_of
-output_is d bytes = refl
-
-pub given_done : (d : ℕ) (bytes : List ℕ) (status : Status) (old mid new : Outside) (session : Session)
-    → Wrote (effect_of_script d bytes) session old.held mid.held old.expanded mid.expanded
+pub given_done : (d : ℕ) (bytes : List ℕ) (status : Status) (old mid new : Outside)
+    → Appends old.held mid.held (output_of d bytes)
+    → HasSpent (effect_of_script d bytes).works old.expanded mid.expanded
     → mid.writes_failed ≡ old.writes_failed → IsFlushed status Done mid new → GivenMeans d bytes status old new
-given_done d bytes status old mid new session w calm f =
-    let all : Appends old.held mid.held (output_of d bytes) = subst (Appends old.held mid.held) (output_is d bytes) w.written in
+given_done d bytes status old mid new all spent calm f =
     let other : Done ≢ WriteFault = λ e. cc in
     elim f.answers [
       | inl is ↦ let fine : status ≢ WriteFault = λ e. other (sym is ∙ e) in
@@ -74,7 +71,7 @@ given_done d bytes status old mid new session w calm f =
             f.done fine,
             f.calm fine ∙ calm,
             all_of_it old.held mid.held new.held (output_of d bytes) all f.held,
-            record { by = spent_then (effect_of_script d bytes).works old.expanded mid.expanded new.expanded f.expanded w.spent },
+            record { by = spent_then (effect_of_script d bytes).works old.expanded mid.expanded new.expanded f.expanded spent },
           )
       | inr is ↦ let unwanted : status ≢ Done = λ e. other (sym e ∙ is) in
           subst (λ (s : Status). GivenMeans d bytes s old new) (sym is) (subst (λ (n : ℕ). Rose n new.writes_failed) calm (f.fault unwanted), some_kept old.held mid.held new.held (output_of d bytes) all f.held)

@@ -15,10 +15,14 @@ mod Known
 mod Gives
 mod Faults
 mod Effects
+mod LineByLine
+mod Lived
 mod Pieces
 mod Reading
+mod WholeScript
 mod Ends
 mod Complete
+mod Silent
 mod Given
 mod Tellings
 mod CityRuns

@@ -15,6 +15,7 @@ use Rattle.cga_top.specs.Prefixes.{AppendsSome}
 use Rattle.cga_top.specs.Session.{IsAt}
 use Rattle.cga_top.specs.State.{State}
 use Rattle.cga_top.specs.Statuses.{HoldsFew, StatusMeans, WritesAll}
+use Rattle.cga_top.specs.Talks.{TalkMeans}
 use Rattle.cga_top.specs.Telling.{TellMeans, TellingMeans, TellsAll, TellsSome}
 use Rattle.cga_top.specs.declared.session.Session.{Session}
 use Rattle.cga_top.proofs.Complete.{complete_of, of_left}
@@ -22,6 +23,7 @@ use Rattle.cga_top.proofs.Effects.{some_after, spent_then}
 use Rattle.cga_top.proofs.Ends.{IsFlushed, SameSource, all_of_it, flushed_as, some_kept}
 use Rattle.cga_top.proofs.Gives.{gave_same, same_given}
 use Rattle.cga_top.proofs.Known.{appends_more}
+use Rattle.cga_top.proofs.Silent.{known_more, nothing_told, status_means}
 
 -- what is told of a session's lots
 abbrev pub ToldBy : Session → List ℕ → Type 0
@@ -102,16 +104,10 @@ module _ (d : ℕ) (session : Session) (old mid new : Outside) (done : StatusMea
   telling_means TooLong bad = absurd bad
   telling_means Usage bad = absurd bad
 
-known_more : (P Q : List ℕ → Type 0) (known : Option (List ℕ)) → IfSome known P
-    → ((bytes : List ℕ) → P bytes → Q bytes) → IfSome known Q
-known_more P Q None p each = tt
-known_more P Q (Some bytes) p each = each bytes p
-
--- where nothing more was told
-pub untold_means : (d : ℕ) (status : Status) (old new : Outside) → StatusMeans d status old new → status ≢ Done
+untold_status : (d : ℕ) (status : Status) (old new : Outside) → StatusMeans d status old new → status ≢ Done
     → TellingMeans d status old new
-untold_means d Done old new m other = absurd (other refl)
-untold_means d WriteFault old new m other = (
+untold_status d Done old new m other = absurd (other refl)
+untold_status d WriteFault old new m other = (
   m.0,
   record {
     read = m.1.read;
@@ -120,10 +116,15 @@ untold_means d WriteFault old new m other = (
     of_all = known_more _ (λ bytes. TellsSome d bytes old new) old.left m.1.of_all (λ bytes some. inl some);
   },
 )
-untold_means d ReadFault old new m other = m
-untold_means d TooLong old new m other = m
-untold_means d NoMemory old new m other = m
-untold_means d Usage old new m other = m
+untold_status d ReadFault old new m other = m
+untold_status d TooLong old new m other = m
+untold_status d NoMemory old new m other = m
+untold_status d Usage old new m other = m
+
+-- where nothing more was told
+pub untold_means : (d : ℕ) (status : Status) (old new : Outside) → TalkMeans nothing_told d status old new
+    → status ≢ Done → TellingMeans d status old new
+untold_means d status old new m other = untold_status d status old new (status_means d status old new m) other
 
 pub telling_complete : (d : ℕ) (status : Status) (old new : Outside) → TellingMeans d status old new
     → HoldsFew old.left → (Rose old.reads_failed new.reads_failed → ⊥)

@@ -11,13 +11,14 @@ pub mod Blocks
 pub mod Session
 pub mod Ready
 pub mod Prefixes
-pub mod Wrote
 pub mod KeptPart
-pub mod Progress
+pub mod Turns
+pub mod Lived
 pub mod Outside
 pub mod Faults
 pub mod Reads
 pub mod Statuses
+pub mod Talks
 pub mod Runs
 pub mod Hulls
 pub mod Telling

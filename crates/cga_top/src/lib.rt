@@ -2,10 +2,11 @@
 //!
 //! It must not know which reader and writer the system has. What a line does is the session's matter; moving bytes is
 //! the matter of `pump`, `reads` and `top`, which know of lines only that each has an effect. A program that
-//! writes more behind a reply than the reply has the session and what does a line, and moves the bytes itself.
+//! writes more behind a reply than the reply gives its `Talker`.
 //!
 //! What callers get wrong: only Done says that all was written. After WriteFault and NoMemory the sink holds some of
-//! the output, and may hold a reply in part.
+//! the output, and may hold a reply in part. A run of a source ends with its program: the memory of its town is given
+//! back by no one but the system.
 #![tactic(auto)]
 
 mod commands;
@@ -24,6 +25,7 @@ mod reports;
 mod script_end;
 mod session;
 mod stats;
+mod talker;
 mod telling;
 mod top;
 mod traces;
@@ -34,11 +36,9 @@ pub use cga_words::{Status, town_script};
 pub use decimals::Decimals;
 pub use halt::Halt;
 pub use laws::one_too_many_is_refused_as_all;
-pub use pump::{send_on, write_all};
-pub use read_end::ReadEnd;
-pub use script_end::end_block;
 pub use session::{Session, new_session};
+pub use talker::Talker;
 pub use telling::run_with_hulls;
-pub use top::{flushed, run_city, status_of};
+pub use top::{run_city, run_script};
 pub use turns::do_line;
 pub use whole::reply;

@@ -1,30 +1,30 @@
-ghost use Rattle.std.specs.Prelude.{◌≡◌, ◌<◌, ◌≤◌, ◌++◌, None, OnOk, OnErr, IsTrue, [], length};
+ghost use Rattle.std.specs.Prelude.{◌≡◌, ◌<◌, ◌≤◌, ◌++◌, ◌∷◌, None, OnOk, OnErr, IsTrue, [], length};
 ghost use Rattle.std.specs.Io.KnownBytes.{Appends, Keeps};
 ghost use Rattle.cga_outside.specs.Causes.{HasCause};
 ghost use Rattle.cga_script.specs.Lines.{cut, lines_of};
 ghost use Rattle.cga_script.specs.Pending.{IsBlankFront, kept_of, ready_line};
 ghost use Rattle.cga_script.specs.declared.ending.Ending.TheVariants as ending;
 ghost use Rattle.cga_top.specs.State.{State};
-ghost use Rattle.cga_top.specs.Replies.{effect};
-ghost use Rattle.cga_top.specs.Output.{effect_of_all};
-ghost use Rattle.cga_top.specs.Session.{IsAt};
+ghost use Rattle.cga_top.specs.Lived.{Begun, IsHere, Lived};
 ghost use Rattle.cga_top.specs.Ready.{IsReady};
-ghost use Rattle.cga_top.specs.Wrote.{Wrote};
 ghost use Rattle.cga_top.specs.KeptPart.{IsKeptPart};
 ghost use Rattle.cga_top.specs.Prefixes.{AppendsSome};
 ghost use Rattle.cga_top.specs.Faults.{FaultsBy};
 
 use crate::halt::Halt;
 use crate::session::Session;
+use crate::talker::Talker;
 use crate::turns::do_line;
 use cga_expand::Expansions;
 use cga_fraction::{NoMemory, Tests};
 use cga_outside::{Failed, Sink};
 use cga_script::{Lines, blank_front};
+use cga_shape::Changes;
+use std::alloc::Global;
 use std::sync::ledger::Ledger;
 
 /// Writes all of the bytes.
-pub fn write_all<K: Sink>(out: &mut K, bytes: &[u8]) -> Result<(), Failed>
+pub(crate) fn write_all<K: Sink>(out: &mut K, bytes: &[u8]) -> Result<(), Failed>
     ensures ok { OnOk result (Appends (K.held out.old) (K.held out.new) bytes.now) }
     ensures err { OnErr result (AppendsSome (K.held out.old) (K.held out.new) bytes.now) }
     ensures cause { HasCause (K.faults out.old) (K.faults out.new) result }
@@ -39,8 +39,24 @@ pub fn write_all<K: Sink>(out: &mut K, bytes: &[u8]) -> Result<(), Failed>
     Ok(())
 }
 
-/// Does what the line that is ready asks for, and writes the reply. What it changed is forgotten then.
-pub(crate) fn take_line<K: Sink, E: Ledger, T: Ledger>(
+// Writes what is told of the changes.
+fn tell<W: Talker, K: Sink>(alloc: Global, changes: &Changes, out: &mut K) -> Result<(), Halt>
+    ensures ok { OnOk result (Appends (K.held out.old) (K.held out.new) (W.told changes.now)) }
+    ensures err { OnErr result (AppendsSome (K.held out.old) (K.held out.new) (W.told changes.now)) }
+    ensures faults { FaultsBy result (K.faults out.old) (K.faults out.new) }
+{
+    let text = match W::text(alloc, changes) {
+        Ok(text) => text,
+        Err(NoMemory) => return Err(Halt::NoMemory),
+    };
+    match write_all(out, text.as_slice()) {
+        Ok(()) => Ok(()),
+        Err(Failed) => Err(Halt::WriteFault),
+    }
+}
+
+/// Does what the line that is ready asks for, and writes the reply and what is told of its changes, which are forgotten then.
+pub(crate) fn take_line<W: Talker, K: Sink, E: Ledger, T: Ledger>(
     session: &mut Session,
     lines: &mut Lines,
     out: &mut K,
@@ -48,12 +64,11 @@ pub(crate) fn take_line<K: Sink, E: Ledger, T: Ledger>(
     tests: &mut Tests<T>,
 ) -> Result<(), Halt>
     requires { IsReady session.old }
-    ensures ok { (s : State) → IsAt s session.old
-        → OnOk result (Wrote (effect s (ready_line lines.old)) session.new (K.held out.old)
-        (K.held out.new) expansions.old expansions.new) }
-    ensures err { (s : State) → IsAt s session.old
-        → OnErr result (AppendsSome (K.held out.old) (K.held out.new) (effect s
-        (ready_line lines.old)).reply) }
+    ensures ok { (s : State) → IsHere s session.old
+        → OnOk result (Lived W.told s (ready_line lines.old ∷ []) session.new (K.held out.old) (K.held out.new)
+        expansions.old expansions.new) }
+    ensures err { (s : State) → IsHere s session.old
+        → OnErr result (Begun W.told s (ready_line lines.old ∷ []) (K.held out.old) (K.held out.new)) }
     ensures faults { FaultsBy result (K.faults out.old) (K.faults out.new) }
     ensures ready { OnOk result (IsReady session.new) }
     ensures lines { OnOk result (lines.new ≡ record { kept = []; ending = ending.Open }) }
@@ -63,13 +78,16 @@ pub(crate) fn take_line<K: Sink, E: Ledger, T: Ledger>(
         Err(NoMemory) => return Err(Halt::NoMemory),
     };
     match write_all(out, reply.as_slice()) {
-        Ok(()) => {
-            lines.clear();
-            session.forget_changes();
-            Ok(())
-        }
-        Err(Failed) => Err(Halt::WriteFault),
+        Ok(()) => {}
+        Err(Failed) => return Err(Halt::WriteFault),
     }
+    match tell::<W, _>(session.alloc, session.changes(), out) {
+        Ok(()) => {}
+        Err(halt) => return Err(halt),
+    }
+    lines.clear();
+    session.forget_changes();
+    Ok(())
 }
 
 // How many bytes at the front of a piece are a line that asks for nothing, seen before it is cut and read: a blank one
@@ -85,8 +103,8 @@ fn passed_over(session: &Session, lines: &Lines, piece: &[u8]) -> usize
     }
 }
 
-/// Does what the lines of a piece ask for, each as it is complete, and writes the replies.
-pub(crate) fn take_piece<K: Sink, E: Ledger, T: Ledger>(
+/// Does what the lines of a piece ask for, each as it is complete, and writes the replies and what is told.
+pub(crate) fn take_piece<W: Talker, K: Sink, E: Ledger, T: Ledger>(
     session: &mut Session,
     lines: &mut Lines,
     piece: &[u8],
@@ -96,12 +114,11 @@ pub(crate) fn take_piece<K: Sink, E: Ledger, T: Ledger>(
 ) -> Result<(), Halt>
     requires part { IsKeptPart lines.old }
     requires ready { IsReady session.old }
-    ensures ok { (s : State) → IsAt s session.old
-        → OnOk result (Wrote (effect_of_all s (lines_of (lines.old.kept ++ piece.now))) session.new
-        (K.held out.old) (K.held out.new) expansions.old expansions.new) }
-    ensures err { (s : State) → IsAt s session.old
-        → OnErr result (AppendsSome (K.held out.old) (K.held out.new) (effect_of_all s (lines_of
-        (lines.old.kept ++ piece.now))).reply) }
+    ensures ok { (s : State) → IsHere s session.old
+        → OnOk result (Lived W.told s (lines_of (lines.old.kept ++ piece.now)) session.new (K.held out.old)
+        (K.held out.new) expansions.old expansions.new) }
+    ensures err { (s : State) → IsHere s session.old
+        → OnErr result (Begun W.told s (lines_of (lines.old.kept ++ piece.now)) (K.held out.old) (K.held out.new)) }
     ensures faults { FaultsBy result (K.faults out.old) (K.faults out.new) }
     ensures ready { OnOk result (IsReady session.new) }
     ensures lines { OnOk result (lines.new ≡ record {
@@ -110,6 +127,7 @@ pub(crate) fn take_piece<K: Sink, E: Ledger, T: Ledger>(
       ending = ending.Open;
     }) }
 {
+    W::tells_changes();
     let mut rest = piece;
     while !rest.is_empty() {
         let passed = passed_over(session, lines, rest);
@@ -120,7 +138,7 @@ pub(crate) fn take_piece<K: Sink, E: Ledger, T: Ledger>(
         let fed = lines.feed(rest);
         rest = rest.split_at(fed.taken).1;
         if fed.ready {
-            match take_line(session, lines, out, expansions, tests) {
+            match take_line::<W, _, _, _>(session, lines, out, expansions, tests) {
                 Ok(()) => {}
                 Err(halt) => return Err(halt),
             }
@@ -130,7 +148,7 @@ pub(crate) fn take_piece<K: Sink, E: Ledger, T: Ledger>(
 }
 
 /// Sends the replies on.
-pub fn send_on<K: Sink>(out: &mut K) -> Result<(), Halt>
+pub(crate) fn send_on<K: Sink>(out: &mut K) -> Result<(), Halt>
     ensures flushed { OnOk result (IsTrue (K.flushed out.new)) }
     ensures faults { FaultsBy result (K.faults out.old) (K.faults out.new) }
     ensures bytes { Keeps (K.held out.old) (K.held out.new) }
@@ -142,7 +160,7 @@ pub fn send_on<K: Sink>(out: &mut K) -> Result<(), Halt>
 }
 
 /// Replies to the lines that a piece ends, and sends the replies on.
-pub(crate) fn reply_to<K: Sink, E: Ledger, T: Ledger>(
+pub(crate) fn reply_to<W: Talker, K: Sink, E: Ledger, T: Ledger>(
     session: &mut Session,
     lines: &mut Lines,
     piece: &[u8],
@@ -152,12 +170,11 @@ pub(crate) fn reply_to<K: Sink, E: Ledger, T: Ledger>(
 ) -> Result<(), Halt>
     requires part { IsKeptPart lines.old }
     requires ready { IsReady session.old }
-    ensures ok { (s : State) → IsAt s session.old
-        → OnOk result (Wrote (effect_of_all s (lines_of (lines.old.kept ++ piece.now))) session.new
-        (K.held out.old) (K.held out.new) expansions.old expansions.new) }
-    ensures err { (s : State) → IsAt s session.old
-        → OnErr result (AppendsSome (K.held out.old) (K.held out.new) (effect_of_all s (lines_of
-        (lines.old.kept ++ piece.now))).reply) }
+    ensures ok { (s : State) → IsHere s session.old
+        → OnOk result (Lived W.told s (lines_of (lines.old.kept ++ piece.now)) session.new (K.held out.old)
+        (K.held out.new) expansions.old expansions.new) }
+    ensures err { (s : State) → IsHere s session.old
+        → OnErr result (Begun W.told s (lines_of (lines.old.kept ++ piece.now)) (K.held out.old) (K.held out.new)) }
     ensures flushed { OnOk result (IsTrue (K.flushed out.new)) }
     ensures faults { FaultsBy result (K.faults out.old) (K.faults out.new) }
     ensures ready { OnOk result (IsReady session.new) }
@@ -167,7 +184,7 @@ pub(crate) fn reply_to<K: Sink, E: Ledger, T: Ledger>(
       ending = ending.Open;
     }) }
 {
-    match take_piece(session, lines, piece, out, expansions, tests) {
+    match take_piece::<W, _, _, _>(session, lines, piece, out, expansions, tests) {
         Ok(()) => {}
         Err(halt) => return Err(halt),
     }

@@ -1,13 +1,14 @@
 ghost use Rattle.std.specs.Prelude.{◌≡◌, [], take};
 ghost use Rattle.cga_top.specs.State.{start};
 ghost use Rattle.cga_top.specs.Outside.{outside_of};
-ghost use Rattle.cga_top.specs.Session.{IsAt};
+ghost use Rattle.cga_top.specs.Lived.{IsHere};
 ghost use Rattle.cga_top.specs.Ready.{IsReady};
 ghost use Rattle.cga_top.specs.Reads.{ReadsTo, pending_after};
 
 use crate::pump::reply_to;
 use crate::read_end::ReadEnd;
 use crate::session::Session;
+use crate::talker::Talker;
 use cga_expand::Expansions;
 use cga_fraction::Tests;
 use cga_outside::{Failed, Sink, Source};
@@ -32,7 +33,7 @@ fn first(bytes: &[u8], most: usize) -> &[u8]
 
 /// Replies to the lines of a script while it is read, up to the limit. What a read completes is replied to and
 /// flushed before the next read.
-pub(crate) fn read_lines<S: Source, K: Sink, E: Ledger, T: Ledger>(
+pub(crate) fn read_lines<W: Talker, S: Source, K: Sink, E: Ledger, T: Ledger>(
     session: &mut Session,
     lines: &mut Lines,
     script: &mut S,
@@ -40,11 +41,11 @@ pub(crate) fn read_lines<S: Source, K: Sink, E: Ledger, T: Ledger>(
     expansions: &mut Expansions<E>,
     tests: &mut Tests<T>,
 ) -> ReadEnd
-    requires session { IsAt (start session.old.decimals) session.old }
+    requires session { IsHere (start session.old.decimals) session.old }
     requires ready { IsReady session.old }
     requires lines { lines.old ≡ pending_after [] }
     ensures ready { result ≡ ReadEnd.Ended → IsReady session.new }
-    ensures end { ReadsTo session.old.decimals result
+    ensures end { ReadsTo W.told session.old.decimals result
         (outside_of S.Source K.Sink script.old out.old expansions.old)
         (outside_of S.Source K.Sink script.new out.new expansions.new) session.new lines.new }
 {
@@ -57,7 +58,7 @@ pub(crate) fn read_lines<S: Source, K: Sink, E: Ledger, T: Ledger>(
             Ok(count) => {
                 let chunk = &buffer[..count];
                 let piece = first(chunk, LIMIT - total);
-                match reply_to(session, lines, piece, out, expansions, tests) {
+                match reply_to::<W, _, _, _>(session, lines, piece, out, expansions, tests) {
                     Ok(()) => {}
                     Err(halt) => return ReadEnd::Halted(halt),
                 }

@@ -4,16 +4,17 @@ ghost use Rattle.cga_script.specs.Pending.{kept_of};
 ghost use Rattle.cga_script.specs.declared.ending.Ending.TheVariants as ending;
 ghost use Rattle.cga_top.specs.State.{State};
 ghost use Rattle.cga_top.specs.Replies.{at_end};
-ghost use Rattle.cga_top.specs.Output.{last_line, last_effect};
 ghost use Rattle.cga_top.specs.Faults.{FaultsBy};
+ghost use Rattle.cga_top.specs.Lived.{Begun, Finished, IsHere, Lived, Unfinished};
 ghost use Rattle.cga_top.specs.Session.{IsAt};
 ghost use Rattle.cga_top.specs.Ready.{IsReady};
-ghost use Rattle.cga_top.specs.Wrote.{Wrote};
 ghost use Rattle.cga_top.specs.Prefixes.{AppendsSome};
+ghost use Rattle.cga_top.specs.Turns.{last_of};
 
 use crate::halt::Halt;
 use crate::pump::{take_line, write_all};
 use crate::session::Session;
+use crate::talker::Talker;
 use cga_expand::Expansions;
 use cga_fraction::{NoMemory, Tests};
 use cga_outside::{Failed, Sink};
@@ -21,7 +22,7 @@ use cga_script::{Lines, Refused, refusal_text};
 use std::sync::ledger::Ledger;
 
 // The line after the last LF, if there is one.
-fn end_line<K: Sink, E: Ledger, T: Ledger>(
+fn end_line<W: Talker, K: Sink, E: Ledger, T: Ledger>(
     session: &mut Session,
     lines: &mut Lines,
     out: &mut K,
@@ -30,17 +31,17 @@ fn end_line<K: Sink, E: Ledger, T: Ledger>(
 ) -> Result<(), Halt>
     requires goes_on { lines.old.ending ≡ ending.Open }
     requires ready { IsReady session.old }
-    ensures ok { (s : State) (rest : List ℕ) → IsAt s session.old
+    ensures ok { (s : State) (rest : List ℕ) → IsHere s session.old
         → lines.old.kept ≡ kept_of rest
-        → OnOk result (Wrote (last_line s rest) session.new (K.held out.old)
-        (K.held out.new) expansions.old expansions.new) }
-    ensures err { (s : State) (rest : List ℕ) → IsAt s session.old
+        → OnOk result (Lived W.told s (last_of rest) session.new (K.held out.old) (K.held out.new)
+        expansions.old expansions.new) }
+    ensures err { (s : State) (rest : List ℕ) → IsHere s session.old
         → lines.old.kept ≡ kept_of rest
-        → OnErr result (AppendsSome (K.held out.old) (K.held out.new) (last_line s rest).reply) }
+        → OnErr result (Begun W.told s (last_of rest) (K.held out.old) (K.held out.new)) }
     ensures faults { FaultsBy result (K.faults out.old) (K.faults out.new) }
 {
     if lines.finish() {
-        match take_line(session, lines, out, expansions, tests) {
+        match take_line::<W, _, _, _>(session, lines, out, expansions, tests) {
             Ok(()) => {}
             Err(halt) => return Err(halt),
         }
@@ -48,8 +49,8 @@ fn end_line<K: Sink, E: Ledger, T: Ledger>(
     Ok(())
 }
 
-/// Refuses a block that is still open.
-pub fn end_block<K: Sink>(session: &Session, out: &mut K) -> Result<(), Halt>
+// Refuses a block that is still open.
+fn end_block<K: Sink>(session: &Session, out: &mut K) -> Result<(), Halt>
     ensures ok { (s : State) → IsAt s session.now
         → OnOk result (Appends (K.held out.old) (K.held out.new) (at_end s).reply) }
     ensures err { (s : State) → IsAt s session.now
@@ -70,7 +71,7 @@ pub fn end_block<K: Sink>(session: &Session, out: &mut K) -> Result<(), Halt>
 }
 
 /// What comes after the last line that an LF ends.
-pub(crate) fn end_script<K: Sink, E: Ledger, T: Ledger>(
+pub(crate) fn end_script<W: Talker, K: Sink, E: Ledger, T: Ledger>(
     session: &mut Session,
     lines: &mut Lines,
     out: &mut K,
@@ -79,16 +80,16 @@ pub(crate) fn end_script<K: Sink, E: Ledger, T: Ledger>(
 ) -> Result<(), Halt>
     requires goes_on { lines.old.ending ≡ ending.Open }
     requires ready { IsReady session.old }
-    ensures ok { (s : State) (rest : List ℕ) → IsAt s session.old
+    ensures ok { (s : State) (rest : List ℕ) → IsHere s session.old
         → lines.old.kept ≡ kept_of rest
-        → OnOk result (Wrote (last_effect s rest) session.new (K.held out.old)
-        (K.held out.new) expansions.old expansions.new) }
-    ensures err { (s : State) (rest : List ℕ) → IsAt s session.old
+        → OnOk result (Finished W.told s (last_of rest) session.new (K.held out.old) (K.held out.new)
+        expansions.old expansions.new) }
+    ensures err { (s : State) (rest : List ℕ) → IsHere s session.old
         → lines.old.kept ≡ kept_of rest
-        → OnErr result (AppendsSome (K.held out.old) (K.held out.new) (last_effect s rest).reply) }
+        → OnErr result (Unfinished W.told s (last_of rest) (K.held out.old) (K.held out.new)) }
     ensures faults { FaultsBy result (K.faults out.old) (K.faults out.new) }
 {
-    match end_line(session, lines, out, expansions, tests) {
+    match end_line::<W, _, _, _>(session, lines, out, expansions, tests) {
         Ok(()) => {}
         Err(halt) => return Err(halt),
     }

@@ -6,7 +6,7 @@ ghost use Rattle.cga_top.specs.Hulls.{IsHullText, IsToldOf};
 ghost use Rattle.cga_top.specs.Output.{output_of};
 ghost use Rattle.cga_top.specs.Outside.{Outside, outside_of};
 ghost use Rattle.cga_top.specs.Ready.{IsReady};
-ghost use Rattle.cga_top.specs.Session.{IsAt};
+ghost use Rattle.cga_top.specs.Lived.{IsHere};
 ghost use Rattle.cga_top.specs.State.{start};
 ghost use Rattle.cga_top.specs.Statuses.{HoldsFew};
 ghost use Rattle.cga_top.specs.Telling.{TellMeans, TellingMeans, sunk_at};
@@ -17,12 +17,14 @@ use crate::decimals::Decimals;
 use crate::hulls::hulls_text;
 use crate::pump::write_all;
 use crate::session::{Session, new_session};
+use crate::talker::Silent;
 use crate::top::{flushed, run_in};
 use cga_expand::Expansions;
 use cga_fraction::{NoMemory, Tests};
 use cga_outside::{Failed, Sink, Source};
 use cga_words::{Status, WordsFault, read_decimals};
 use std::alloc::Global;
+use std::mem::forget;
 use std::sync::ledger::Ledger;
 
 // Tells the boxes of the lots.
@@ -53,7 +55,7 @@ fn run_and_tell<S: Source, K: Sink, E: Ledger, T: Ledger>(
     expansions: &mut Expansions<E>,
     tests: &mut Tests<T>,
 ) -> Status
-    requires session { IsAt (start session.old.decimals) session.old }
+    requires session { IsHere (start session.old.decimals) session.old }
     requires ready { IsReady session.old }
     ensures told { result ≡ Status.Done → IfSome (S.left script.old) (λ bytes. (text : List ℕ)
         × IsToldOf session.old.decimals bytes text
@@ -67,7 +69,7 @@ fn run_and_tell<S: Source, K: Sink, E: Ledger, T: Ledger>(
         → (Rose (K.faults out.old) (K.faults out.new) → ⊥)
         → (result ≡ Status.Done) ⊎ (result ≡ Status.NoMemory) }
 {
-    match run_in(session, script, out, expansions, tests) {
+    match run_in::<Silent, _, _, _, _>(session, script, out, expansions, tests) {
         Status::Done => tell(session, out),
         other => other,
     }
@@ -99,7 +101,7 @@ fn told_of<S: Source, K: Sink, E: Ledger, T: Ledger>(
         Err(NoMemory) => return Status::NoMemory,
     };
     let status = run_and_tell(&mut session, script, out, expansions, tests);
-    drop(session);
+    forget(session);
     status
 }
 

@@ -9,12 +9,14 @@ ghost use Rattle.cga_top.specs.State.{start};
 ghost use Rattle.cga_top.specs.Output.{effect_of_script, output_of};
 ghost use Rattle.cga_top.specs.Outside.{outside_of};
 ghost use Rattle.cga_top.specs.Faults.{FaultsBy};
+ghost use Rattle.cga_top.specs.Effect.{HasSpent};
+ghost use Rattle.cga_top.specs.Lived.{IsHere};
 ghost use Rattle.cga_top.specs.Session.{IsAt};
 ghost use Rattle.cga_top.specs.Ready.{IsReady};
-ghost use Rattle.cga_top.specs.Wrote.{Wrote};
 ghost use Rattle.cga_top.specs.Prefixes.{AppendsSome};
 ghost use Rattle.cga_top.specs.Reads.{pending_after};
-ghost use Rattle.cga_top.specs.Statuses.{StatusMeans, HoldsFew};
+ghost use Rattle.cga_top.specs.Statuses.{HoldsFew, StatusMeans};
+ghost use Rattle.cga_top.specs.Talks.{TalkMeans};
 ghost use Rattle.cga_top.specs.Runs.{GivenMeans, RunMeans, HoldsFewOr, IsScript, script_of, sunk_in};
 
 use crate::decimals::Decimals;
@@ -24,16 +26,18 @@ use crate::read_end::ReadEnd;
 use crate::reads::read_lines;
 use crate::script_end::end_script;
 use crate::session::{Session, new_session};
+use crate::talker::{Silent, Talker};
 use cga_expand::Expansions;
 use cga_fraction::{NoMemory, Tests};
 use cga_outside::{Failed, Sink, Source};
 use cga_script::Lines;
 use cga_words::{Status, WordsFault, read_words, town_script};
 use std::alloc::Global;
+use std::mem::forget;
 use std::sync::ledger::Ledger;
 
-/// How a run ends that stops.
-pub fn status_of(halt: Halt) -> Status
+// How a run ends that stops.
+fn status_of(halt: Halt) -> Status
     ensures write { halt ≡ Halt.WriteFault → result ≡ Status.WriteFault }
     ensures memory { halt ≡ Halt.NoMemory → result ≡ Status.NoMemory }
     ensures used { result ≢ Status.Usage }
@@ -46,7 +50,7 @@ pub fn status_of(halt: Halt) -> Status
 }
 
 /// Flushes, and gives the status where that is done.
-pub fn flushed<K: Sink>(out: &mut K, status: Status) -> Status
+pub(crate) fn flushed<K: Sink>(out: &mut K, status: Status) -> Status
     ensures answers { (result ≡ status) ⊎ (result ≡ Status.WriteFault) }
     ensures done { result ≢ Status.WriteFault → IsTrue (K.flushed out.new) }
     ensures fault { result ≢ status → Rose (K.faults out.old) (K.faults out.new) }
@@ -59,17 +63,17 @@ pub fn flushed<K: Sink>(out: &mut K, status: Status) -> Status
     }
 }
 
-/// Replies to a script while it is read.
-pub(crate) fn run_in<S: Source, K: Sink, E: Ledger, T: Ledger>(
+/// Replies to a script while it is read, and tells behind each reply what the talker tells.
+pub(crate) fn run_in<W: Talker, S: Source, K: Sink, E: Ledger, T: Ledger>(
     session: &mut Session,
     script: &mut S,
     out: &mut K,
     expansions: &mut Expansions<E>,
     tests: &mut Tests<T>,
 ) -> Status
-    requires session { IsAt (start session.old.decimals) session.old }
+    requires session { IsHere (start session.old.decimals) session.old }
     requires ready { IsReady session.old }
-    ensures means { StatusMeans session.old.decimals result
+    ensures means { TalkMeans W.told session.old.decimals result
         (outside_of S.Source K.Sink script.old out.old expansions.old)
         (outside_of S.Source K.Sink script.new out.new expansions.new) }
     ensures used { result ≢ Status.Usage }
@@ -86,8 +90,10 @@ pub(crate) fn run_in<S: Source, K: Sink, E: Ledger, T: Ledger>(
         Ok(lines) => lines,
         Err(NoMemory) => return Status::NoMemory,
     };
-    match read_lines(session, &mut lines, script, out, expansions, tests) {
-        ReadEnd::Ended => match end_script(session, &mut lines, out, expansions, tests) {
+    match read_lines::<W, _, _, _, _>(session, &mut lines, script, out, expansions, tests) {
+        ReadEnd::Ended => match end_script::<W, _, _, _>(
+            session, &mut lines, out, expansions, tests,
+        ) {
             Ok(()) => flushed(out, Status::Done),
             Err(halt) => status_of(halt),
         },
@@ -97,8 +103,36 @@ pub(crate) fn run_in<S: Source, K: Sink, E: Ledger, T: Ledger>(
     }
 }
 
-// The same with a session of its own.
-fn run_script<S: Source, K: Sink, E: Ledger, T: Ledger>(
+/// Replies to a script while it is read, with a session of its own, and writes behind each reply what the talker tells of
+/// the line. `means` says when each status comes, and what was read and written then. Takes memory.
+pub fn run_script<W: Talker, S: Source, K: Sink, E: Ledger, T: Ledger>(
+    alloc: Global,
+    decimals: Decimals,
+    script: &mut S,
+    out: &mut K,
+    expansions: &mut Expansions<E>,
+    tests: &mut Tests<T>,
+) -> Status
+    ensures means { TalkMeans W.told decimals result
+        (outside_of S.Source K.Sink script.old out.old expansions.old)
+        (outside_of S.Source K.Sink script.new out.new expansions.new) }
+    ensures used { result ≢ Status.Usage }
+    ensures complete { HoldsFew (S.left script.old)
+        → (Rose (S.faults script.old) (S.faults script.new) → ⊥)
+        → (Rose (K.faults out.old) (K.faults out.new) → ⊥)
+        → (result ≡ Status.Done) ⊎ (result ≡ Status.NoMemory) }
+{
+    let mut session = match new_session(alloc, decimals) {
+        Ok(session) => session,
+        Err(NoMemory) => return Status::NoMemory,
+    };
+    let status = run_in::<W, _, _, _, _>(&mut session, script, out, expansions, tests);
+    forget(session);
+    status
+}
+
+// The same, where nothing is told.
+fn run_silent<S: Source, K: Sink, E: Ledger, T: Ledger>(
     alloc: Global,
     decimals: Decimals,
     script: &mut S,
@@ -115,13 +149,7 @@ fn run_script<S: Source, K: Sink, E: Ledger, T: Ledger>(
         → (Rose (K.faults out.old) (K.faults out.new) → ⊥)
         → (result ≡ Status.Done) ⊎ (result ≡ Status.NoMemory) }
 {
-    let mut session = match new_session(alloc, decimals) {
-        Ok(session) => session,
-        Err(NoMemory) => return Status::NoMemory,
-    };
-    let status = run_in(&mut session, script, out, expansions, tests);
-    drop(session);
-    status
+    run_script::<Silent, _, _, _, _>(alloc, decimals, script, out, expansions, tests)
 }
 
 // Replies to lines that are all there, up to the end of their script.
@@ -133,20 +161,22 @@ fn take_all<K: Sink, E: Ledger, T: Ledger>(
     expansions: &mut Expansions<E>,
     tests: &mut Tests<T>,
 ) -> Result<(), Halt>
-    requires session { IsAt (start session.old.decimals) session.old }
+    requires session { IsHere (start session.old.decimals) session.old }
     requires ready { IsReady session.old }
     requires lines { lines.old ≡ pending_after [] }
-    ensures ok { OnOk result (Wrote (effect_of_script session.old.decimals script.now) session.new
-        (K.held out.old) (K.held out.new) expansions.old expansions.new) }
+    ensures ok { OnOk result (Appends (K.held out.old) (K.held out.new)
+        (output_of session.old.decimals script.now)) }
+    ensures spent { OnOk result (HasSpent (effect_of_script session.old.decimals script.now).works
+        expansions.old expansions.new) }
     ensures err { OnErr result (AppendsSome (K.held out.old) (K.held out.new)
         (output_of session.old.decimals script.now)) }
     ensures faults { FaultsBy result (K.faults out.old) (K.faults out.new) }
 {
-    match take_piece(session, lines, script, out, expansions, tests) {
+    match take_piece::<Silent, _, _, _>(session, lines, script, out, expansions, tests) {
         Ok(()) => {}
         Err(halt) => return Err(halt),
     }
-    match end_script(session, lines, out, expansions, tests) {
+    match end_script::<Silent, _, _, _>(session, lines, out, expansions, tests) {
         Ok(()) => Ok(()),
         Err(halt) => Err(halt),
     }
@@ -160,7 +190,7 @@ fn given_in<K: Sink, E: Ledger, T: Ledger>(
     expansions: &mut Expansions<E>,
     tests: &mut Tests<T>,
 ) -> Status
-    requires session { IsAt (start session.old.decimals) session.old }
+    requires session { IsHere (start session.old.decimals) session.old }
     requires ready { IsReady session.old }
     ensures means { GivenMeans session.old.decimals script.now result
         (sunk_in K.Sink out.old expansions.old) (sunk_in K.Sink out.new expansions.new) }
@@ -282,6 +312,6 @@ pub fn run_city<S: Source, K: Sink, E: Ledger, T: Ledger>(
     let decimals = Decimals::new(wanted.decimals);
     match wanted.town {
         Some(lots) => run_town(alloc, decimals, lots, out, expansions, tests),
-        None => run_script(alloc, decimals, script, out, expansions, tests),
+        None => run_silent(alloc, decimals, script, out, expansions, tests),
     }
 }

@@ -1,9 +1,9 @@
 use Rattle.std.proofs.Common.{◌≡◌, ◌++◌, ◌≤◌, ◌-◌, ◌∙◌, ℕ, [], length, take, refl, sym, subst, ap, arith, rules, length-append}
 use Rattle.std.proofs.lemmas.List.{length-take-le}
 use Rattle.std.specs.Io.KnownBytes.{Consumes}
-use Rattle.cga_top.proofs.Reading.{reads_start, is_part, reads_none, reads_kept, reads_more, reads_halt}
 use Rattle.cga_outside.specs.Causes.{Rose}
 use Rattle.cga_top.proofs.Faults.{faults_since}
+use Rattle.cga_top.proofs.Reading.{is_part, reads_halt, reads_kept, reads_more, reads_none, reads_start}
 use Rattle.cga_top.proofs.reads.read_lines.Goals as goal
 
 pub loop-total-init : goal.loop-total-init
@@ -11,7 +11,7 @@ loop-total-init g c = record {
   most = omega arith;
   ready = c.requires.ready;
   calm = refl;
-  so_far = ([], reads_start _ _ _ _ c.requires.session c.requires.lines, refl);
+  so_far = ([], reads_start g.W.Talker.told _ _ _ _ c.requires.session c.requires.lines, refl);
 }
 
 pub reply_to-requires-clause-part : goal.reply_to-requires-clause-part
@@ -25,9 +25,7 @@ returns-in-Err-reply_to-clause-end g c =
     let first = c.first-piece.ensures ∙ ap (λ (n : ℕ). take (67108864 - n) (take c.in-Ok.count c.read.new.buf)) (sym inv.so_far.2) in
     let halt = c.in-Err-reply_to.ensures in (
       read ++ take c.in-Ok.count c.read.new.buf,
-      reads_halt _ read _ _ _ _ _ _ _
-          (record { few = few; within = first; before = inv.so_far.1; gave = record { given = c.in-Ok.ensures.gave; taken = c.in-Ok.ensures.bytes.0 } })
-          halt.err (c.in-Ok.ensures.cause.calm ∙ inv.calm),
+      reads_halt g.W.Talker.told _ read _ _ _ _ _ _ _ few first inv.so_far.1 (record { given = c.in-Ok.ensures.gave; taken = c.in-Ok.ensures.bytes.0 }) halt.err (c.in-Ok.ensures.cause.calm ∙ inv.calm),
       faults_since c.in-Err-reply_to.halt _ _ _ inv.so_far.1.calm halt.faults,
     )
 
@@ -36,7 +34,7 @@ returns-in-Err-clause-end g c =
     let inv = c.loop-total.invariant in
     let failed = c.in-Err.ensures in (
       inv.so_far.0,
-      reads_kept _ inv.so_far.0 _ _ _ _ _ _ _ _ inv.so_far.1 failed.gave failed.bytes,
+      reads_kept g.W.Talker.told _ inv.so_far.0 _ _ _ _ _ _ _ _ inv.so_far.1 failed.gave failed.bytes,
       omega (arith, inv.so_far.2, c.loop-total-test.true),
       subst (λ (n : ℕ). Rose n (g.S.Source.faults c.read.new.self)) inv.calm failed.cause.failed,
     )
@@ -48,7 +46,7 @@ returns-in-Ok-eq0-clause-end g c =
     let none = subst (λ (n : ℕ). Consumes (g.S.Source.left c.loop-total.script) (g.S.Source.left c.read.new.self) (take n c.read.new.buf)) c.in-Ok-eq0.field-0-test got.bytes.0 in
     let still = subst (λ (n : ℕ). g.S.Source.given c.read.new.self ≡ g.S.Source.given c.loop-total.script ++ take n c.read.new.buf) c.in-Ok-eq0.field-0-test got.gave in (
       inv.so_far.0,
-      reads_none _ inv.so_far.0 _ _ _ _ _ _ _ _ inv.so_far.1 still none,
+      reads_none g.W.Talker.told _ inv.so_far.0 _ _ _ _ _ _ _ _ inv.so_far.1 still none,
       omega (arith, inv.so_far.2, c.loop-total-test.true),
       search rules,
       search rules,
@@ -68,9 +66,7 @@ loop-total-preserved g c =
       calm = c.in-Ok.ensures.cause.calm ∙ inv.calm;
       so_far = (
         read ++ take c.in-Ok.count c.read.new.buf,
-        reads_more _ read _ _ _ _ _ _ _ _ _
-            (record { few = few; within = first; before = inv.so_far.1; gave = record { given = c.in-Ok.ensures.gave; taken = c.in-Ok.ensures.bytes.0 } })
-            (record { wrote = done.ok; lines_are = done.lines; flushed = done.flushed; calm = done.faults }),
+        reads_more g.W.Talker.told _ read _ _ _ _ _ _ _ few first inv.so_far.1 (record { given = c.in-Ok.ensures.gave; taken = c.in-Ok.ensures.bytes.0 }) _ _ done.ok done.lines done.flushed done.faults,
         omega (arith, length-append read (take c.in-Ok.count c.read.new.buf), length-take-le c.in-Ok.count c.read.new.buf c.in-Ok.ensures.bound.0, inv.so_far.2),
       );
     }

@@ -3,7 +3,7 @@ use Rattle.cga_words.specs.Words.{IsTownless, decimals_of}
 use Rattle.cga_words.specs.declared.words_fault.WordsFault.{WordsFault}
 use Rattle.cga_words.proofs.Door.{plain_townless, townless_says}
 use Rattle.cga_top.specs.Outside.{outside_of}
-use Rattle.cga_top.proofs.Ends.{unbegun_means}
+use Rattle.cga_top.proofs.Silent.{unbegun_means}
 use Rattle.cga_top.proofs.telling.run_with_hulls.Goals as goal
 
 pub returns-in-Err-Usage-clause-plain : goal.returns-in-Err-Usage-clause-plain

@@ -5,7 +5,7 @@ use Rattle.cga_words.specs.declared.status.Status.TheVariants.{Done}
 use Rattle.cga_top.specs.Hulls.{IsToldOf}
 use Rattle.cga_top.specs.Outside.{outside_of}
 use Rattle.cga_top.specs.Output.{output_of}
-use Rattle.cga_top.proofs.Ends.{unbegun_means}
+use Rattle.cga_top.proofs.Silent.{unbegun_means}
 use Rattle.cga_top.proofs.telling.told_of.Goals as goal
 
 pub returns-clause-told : goal.returns-clause-told

@@ -26,7 +26,7 @@ returns-in-Some-clause-plain g c = λ name first decimals town fits words.
 pub returns-in-None-clause-plain : goal.returns-in-None-clause-plain
 returns-in-None-clause-plain g c = λ name first decimals town fits words.
     let says = plain_says name first decimals town fits in
-    (c.run_script.ensures.used, ap decimals_of words ∙ says.decimals_are, ap town_of words ∙ says.town_is)
+    (c.run_silent.ensures.used, ap decimals_of words ∙ says.decimals_are, ap town_of words ∙ says.town_is)
 
 pub returns-in-Err-NoMemory-clause-means : goal.returns-in-Err-NoMemory-clause-means
 returns-in-Err-NoMemory-clause-means g c =

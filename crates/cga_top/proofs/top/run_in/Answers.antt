@@ -1,8 +1,8 @@
 use Rattle.std.proofs.Common.{ap, refl}
 use Rattle.cga_top.specs.Outside.{outside_of}
-use Rattle.cga_top.proofs.Ends.{start_pending, done_means, failed_means, too_long_means, halted_means, halted_prefix, end_prefix, came_to, unbegun_means}
+use Rattle.cga_top.proofs.Ends.{came_to, done_means, end_some, failed_means, halted_means, halted_some, none_means, start_pending, too_long_means}
 use Rattle.cga_top.proofs.Faults.{faults_since}
-use Rattle.cga_top.proofs.Complete.{complete_of, not_used, done_not_used, read_not_used, long_not_used, not_done, read_not_done, long_not_done}
+use Rattle.cga_top.proofs.Complete.{talk_complete, not_used, done_not_used, read_not_used, long_not_used, not_done, read_not_done, long_not_done}
 use Rattle.cga_top.proofs.top.run_in.Goals as goal
 
 pub read_lines-requires-clause-lines : goal.read_lines-requires-clause-lines
@@ -10,64 +10,59 @@ read_lines-requires-clause-lines g c = start_pending _ c.in-Ok.ensures
 
 pub returns-in-Err-clause-means : goal.returns-in-Err-clause-means
 returns-in-Err-clause-means g c =
-    unbegun_means _ (outside_of g.S.Source g.K.Sink c.args.script.now c.args.out.now c.args.expansions.now)
+    none_means g.W.Talker.told _ (outside_of g.S.Source g.K.Sink c.args.script.now c.args.out.now c.args.expansions.now)
 
 pub returns-in-Ok-end_script-clause-means : goal.returns-in-Ok-end_script-clause-means
 returns-in-Ok-end_script-clause-means g c =
-    let r = (c.in-Ended.ensures.end) in
-    let w = c.in-Ok-end_script.ensures.ok _ _ r.1.wrote.is_at (ap (λ p. p.kept) r.1.lines_are) in
+    let r = c.in-Ended.ensures.end in
+    let q = c.in-Ok-end_script.ensures.ok _ _ r.1.lived.here (ap (λ p. p.kept) r.1.lines_are) in
     let f = c.flushed.ensures in
     let last = outside_of g.S.Source g.K.Sink c.read_lines.new.script c.end_script.new.out c.end_script.new.expansions in
-    done_means _ _ _ _ last _ _ _ _ r.0 (record { replied = r.1; few = r.2; at_end = r.3; ended = r.4; reads = r.5 })
-    (record {
-      wrote = w;
-      source = record { given = refl; left = refl; ended = refl; reads = refl };
-      calm = c.in-Ok-end_script.ensures.faults;
-      flushed = record { source = record { given = refl; left = refl; ended = refl; reads = refl }; expanded = refl; held = f.bytes; answers = f.answers; done = f.done; fault = f.fault; calm = f.calm };
-    })
+    done_means g.W.Talker.told _ r.0 _ _ _ _ r.1 r.2 r.3 _ _ last _ r.4 r.5 q (record { given = refl; left = refl; ended = refl; reads = refl }) c.in-Ok-end_script.ensures.faults
+    (record { source = record { given = refl; left = refl; ended = refl; reads = refl }; expanded = refl; held = f.bytes; answers = f.answers; done = f.done; fault = f.fault; calm = f.calm })
 
 pub returns-in-Ended-clause-means : goal.returns-in-Ended-clause-means
 returns-in-Ended-clause-means g c =
-    let r = (c.in-Ended.ensures.end) in
-    let s = c.in-Err-end_script.ensures.err _ _ r.1.wrote.is_at (ap (λ p. p.kept) r.1.lines_are) in
-    halted_means _ c.in-Err-end_script.halt _ _ _ c.status_of.ensures.write c.status_of.ensures.memory
+    let r = c.in-Ended.ensures.end in
+    let u = c.in-Err-end_script.ensures.err _ _ r.1.lived.here (ap (λ p. p.kept) r.1.lines_are) in
+    halted_means g.W.Talker.told _ c.in-Err-end_script.halt _ _ _ c.status_of.ensures.write c.status_of.ensures.memory
     (faults_since c.in-Err-end_script.halt _ _ _ r.1.calm c.in-Err-end_script.ensures.faults) r.5
-    (end_prefix _ r.0 _ _ (outside_of g.S.Source g.K.Sink c.read_lines.new.script c.end_script.new.out c.end_script.new.expansions) _ _ r.1 r.2 r.3
-    (record { given = refl; left = refl; ended = refl; reads = refl }) s)
+    (end_some g.W.Talker.told _ r.0 _ _ _ _ r.1 r.2 r.3 (outside_of g.S.Source g.K.Sink c.read_lines.new.script c.end_script.new.out c.end_script.new.expansions)
+    (record { given = refl; left = refl; ended = refl; reads = refl }) u)
 
 pub returns-in-Failed-clause-means : goal.returns-in-Failed-clause-means
 returns-in-Failed-clause-means g c =
     let r = c.in-Failed.ensures.end in
     let f = c.flushed-in-Failed.ensures in
-    failed_means _ _ _ _ _ _ _ r.0 r.1 r.2 r.3
+    failed_means g.W.Talker.told _ _ _ _ _ _ _ r.0 r.1 r.2 r.3
     (record { source = record { given = refl; left = refl; ended = refl; reads = refl }; expanded = refl; held = f.bytes; answers = f.answers; done = f.done; fault = f.fault; calm = f.calm })
 
 pub returns-in-TooLong-clause-means : goal.returns-in-TooLong-clause-means
 returns-in-TooLong-clause-means g c =
     let r = c.in-TooLong.ensures.end in
     let f = c.flushed-in-TooLong.ensures in
-    too_long_means _ _ _ _ _ _ _ r.0 r.1 r.2 r.3 r.4
+    too_long_means g.W.Talker.told _ _ _ _ _ _ _ r.0 r.1 r.2 r.3 r.4
     (record { source = record { given = refl; left = refl; ended = refl; reads = refl }; expanded = refl; held = f.bytes; answers = f.answers; done = f.done; fault = f.fault; calm = f.calm })
 
 pub returns-clause-means : goal.returns-clause-means
 returns-clause-means g c =
     let r = c.in-Halted.ensures.end in
-    halted_means _ c.in-Halted.halt _ _ _ c.status_of-in-Halted.ensures.write c.status_of-in-Halted.ensures.memory r.2 r.1.calm (halted_prefix _ r.0 _ _ r.1)
+    halted_means g.W.Talker.told _ c.in-Halted.halt _ _ _ c.status_of-in-Halted.ensures.write c.status_of-in-Halted.ensures.memory r.2 r.1.calm (halted_some g.W.Talker.told _ r.0 _ _ r.1)
 
 pub returns-in-Ok-end_script-clause-complete : goal.returns-in-Ok-end_script-clause-complete
-returns-in-Ok-end_script-clause-complete g c = λ few calm silent. complete_of _ _ _ _ (returns-in-Ok-end_script-clause-means g c) few calm silent (not_used _ _ c.flushed.ensures.answers done_not_used)
+returns-in-Ok-end_script-clause-complete g c = λ few calm silent. talk_complete _ _ _ _ _ (returns-in-Ok-end_script-clause-means g c) few calm silent (not_used _ _ c.flushed.ensures.answers done_not_used)
 
 pub returns-in-Ended-clause-complete : goal.returns-in-Ended-clause-complete
-returns-in-Ended-clause-complete g c = λ few calm silent. complete_of _ _ _ _ (returns-in-Ended-clause-means g c) few calm silent c.status_of.ensures.used
+returns-in-Ended-clause-complete g c = λ few calm silent. talk_complete _ _ _ _ _ (returns-in-Ended-clause-means g c) few calm silent c.status_of.ensures.used
 
 pub returns-in-Failed-clause-complete : goal.returns-in-Failed-clause-complete
-returns-in-Failed-clause-complete g c = λ few calm silent. complete_of _ _ _ _ (returns-in-Failed-clause-means g c) few calm silent (not_used _ _ c.flushed-in-Failed.ensures.answers read_not_used)
+returns-in-Failed-clause-complete g c = λ few calm silent. talk_complete _ _ _ _ _ (returns-in-Failed-clause-means g c) few calm silent (not_used _ _ c.flushed-in-Failed.ensures.answers read_not_used)
 
 pub returns-in-TooLong-clause-complete : goal.returns-in-TooLong-clause-complete
-returns-in-TooLong-clause-complete g c = λ few calm silent. complete_of _ _ _ _ (returns-in-TooLong-clause-means g c) few calm silent (not_used _ _ c.flushed-in-TooLong.ensures.answers long_not_used)
+returns-in-TooLong-clause-complete g c = λ few calm silent. talk_complete _ _ _ _ _ (returns-in-TooLong-clause-means g c) few calm silent (not_used _ _ c.flushed-in-TooLong.ensures.answers long_not_used)
 
 pub returns-clause-complete : goal.returns-clause-complete
-returns-clause-complete g c = λ few calm silent. complete_of _ _ _ _ (returns-clause-means g c) few calm silent c.status_of-in-Halted.ensures.used
+returns-clause-complete g c = λ few calm silent. talk_complete _ _ _ _ _ (returns-clause-means g c) few calm silent c.status_of-in-Halted.ensures.used
 
 pub returns-in-TooLong-clause-used : goal.returns-in-TooLong-clause-used
 returns-in-TooLong-clause-used g c = not_used _ _ c.flushed-in-TooLong.ensures.answers long_not_used
@@ -80,9 +75,9 @@ returns-in-Failed-clause-used g c = not_used _ _ c.flushed-in-Failed.ensures.ans
 
 pub returns-in-Ok-end_script-clause-came : goal.returns-in-Ok-end_script-clause-came
 returns-in-Ok-end_script-clause-came g c =
-    let r = (c.in-Ended.ensures.end) in
-    let w = c.in-Ok-end_script.ensures.ok _ _ r.1.wrote.is_at (ap (λ p. p.kept) r.1.lines_are) in
-    λ done. came_to _ r.0 _ (outside_of g.S.Source g.K.Sink c.read_lines.new.script c.read_lines.new.out c.read_lines.new.expansions) _ _ _ r.1 r.2 w.is_at
+    let r = c.in-Ended.ensures.end in
+    let q = c.in-Ok-end_script.ensures.ok _ _ r.1.lived.here (ap (λ p. p.kept) r.1.lines_are) in
+    λ done. came_to g.W.Talker.told _ r.0 _ (outside_of g.S.Source g.K.Sink c.read_lines.new.script c.read_lines.new.out c.read_lines.new.expansions) _ _ _ r.1 r.2 q.at
 
 pub returns-in-Ended-clause-came : goal.returns-in-Ended-clause-came
 returns-in-Ended-clause-came g c = λ done. absurd (c.status_of.ensures.done done)
@@ -98,9 +93,9 @@ returns-clause-came g c = λ done. absurd (c.status_of-in-Halted.ensures.done do
 
 pub returns-in-Ok-end_script-clause-warm : goal.returns-in-Ok-end_script-clause-warm
 returns-in-Ok-end_script-clause-warm g c =
-    let r = (c.in-Ended.ensures.end) in
-    let w = c.in-Ok-end_script.ensures.ok _ _ r.1.wrote.is_at (ap (λ p. p.kept) r.1.lines_are) in
-    λ done. w.is_at.warm
+    let r = c.in-Ended.ensures.end in
+    let q = c.in-Ok-end_script.ensures.ok _ _ r.1.lived.here (ap (λ p. p.kept) r.1.lines_are) in
+    λ done. q.at.warm
 
 pub returns-in-Ended-clause-warm : goal.returns-in-Ended-clause-warm
 returns-in-Ended-clause-warm g c = λ done. absurd (c.status_of.ensures.done done)

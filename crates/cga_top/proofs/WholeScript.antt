@@ -7,23 +7,19 @@ use Rattle.cga_script.proofs.Door.{last_kept, lines_append, nothing_kept}
 use Rattle.cga_script.specs.Lines.{Line, clipped, cut, lines_of}
 use Rattle.cga_script.specs.Pending.{Pending, kept_of, ready_line}
 use Rattle.cga_script.specs.declared.ending.Ending.TheVariants.{End}
-use Rattle.cga_top.proofs.Door.{all_append, all_none, appends_more}
-use Rattle.cga_top.proofs.Door.{followed_assoc}
-use Rattle.cga_top.proofs.Door.{some_after, some_more}
-use Rattle.cga_top.proofs.Door.{spent_more}
 use Rattle.cga_top.specs.Effect.{Effect, HasSpent, followed_by}
-use Rattle.cga_top.specs.Outside.{Outside}
+use Rattle.cga_top.specs.Lived.{Begun, Finished, Lived, Unfinished, behind_all}
 use Rattle.cga_top.specs.Output.{effect_of_all, effect_of_script, last_line, output_of}
 use Rattle.cga_top.specs.Prefixes.{AppendsSome}
 use Rattle.cga_top.specs.Reads.{limit}
 use Rattle.cga_top.specs.Replies.{at_end}
 use Rattle.cga_top.specs.State.{State, start}
+use Rattle.cga_top.specs.Talks.{SaysAll, SaysSome}
+use Rattle.cga_top.specs.Turns.{Talk, Turn, all_lines, end_of, last_of, text_by}
 use Rattle.cga_top.specs.declared.session.Session.{Session}
-use Rattle.cga_live.proofs.Lived.{both_and_left, both_lines, both_text, both_told, begun_rest, line_effect}
-use Rattle.cga_live.proofs.Turns.{follows, replies_all}
-use Rattle.cga_live.specs.Live.{AreTold, IsLiveOf, Turn, all_lines, end_of, last_of, lines_in, replies_of, text_of}
-use Rattle.cga_live.specs.Means.{TellsSome, behind_all}
-use Rattle.cga_live.specs.Runs.{Begun, Finished, Lived, Unfinished}
+use Rattle.cga_top.proofs.Effects.{all_append, all_none, followed_assoc, some_after, some_more, spent_more}
+use Rattle.cga_top.proofs.Known.{appends_more}
+use Rattle.cga_top.proofs.Lived.{begun_rest, both_and_left, both_changed, both_lines, both_text, line_effect}
 
 -- ---- the last line
 
@@ -58,12 +54,10 @@ script_is d bytes =
     ∙ ap (λ (t : Effect). followed_by t (at_end t.state)) (sym (all_append s (lines_of bytes) (last_of rest)))
 
 -- the replies alone are the output
-output_is : (d : ℕ) (bytes : List ℕ) (turns : List Turn) → lines_in turns ≡ all_lines bytes
-    → replies_of (start d) turns ++ end_of d bytes ≡ output_of d bytes
+pub output_is : (d : ℕ) (bytes : List ℕ)
+    → (effect_of_all (start d) (all_lines bytes)).reply ++ end_of d bytes ≡ output_of d bytes
 unfolding output_of whole_effect
-output_is d bytes turns are =
-    ap (λ (r : List ℕ). r ++ end_of d bytes) (replies_all (start d) turns ∙ ap (λ (l : List Line). (effect_of_all (start d) l).reply) are)
-    ∙ ap (λ (t : Effect). t.reply) (sym (script_is d bytes))
+output_is d bytes = ap (λ (t : Effect). t.reply) (sym (script_is d bytes))
 
 spent_all : (d : ℕ) (bytes : List ℕ) (i j : ℕ) → HasSpent (effect_of_all (start d) (all_lines bytes)).works i j
     → HasSpent (effect_of_script d bytes).works i j
@@ -79,10 +73,20 @@ first_lines x y =
     let last : List Line = last_of (cut (x ++ y)).rest in
     (later ++ last, ap (λ (l : List Line). l ++ last) (lines_append x y) ∙ append_assoc (lines_of x) later last)
 
+-- the state of all lines
+abbrev pub last_state : ℕ → List ℕ → State
+last_state d bytes = (effect_of_all (effect_of_all (start d) (lines_of bytes)).state (last_of (cut bytes).rest)).state
+
+pub state_is : (d : ℕ) (bytes : List ℕ) → last_state d bytes ≡ (effect_of_script d bytes).state
+unfolding whole_effect
+state_is d bytes =
+    ap (λ (t : Effect). t.state) (sym (all_append (start d) (lines_of bytes) (last_of (cut bytes).rest)))
+    ∙ ap (λ (t : Effect). t.state) (sym (script_is d bytes))
+
 -- ---- what was told
 
 -- the lines that an LF ends and the last one, and the end
-module _ (d : ℕ) (bytes : List ℕ) where
+module _ (told : Talk) (d : ℕ) (bytes : List ℕ) where
   abbrev lines : List Line
   lines = lines_of bytes
 
@@ -95,70 +99,72 @@ module _ (d : ℕ) (bytes : List ℕ) where
   end_is : (at_end (effect_of_all mid_state rest).state).reply ≡ end_of d bytes
   end_is = ap (λ (t : Effect). (at_end t.state).reply) (sym (all_append (start d) lines rest))
 
-  pub all_live : (session : Session) (a b c : Option (List ℕ)) (i j k : ℕ) → Lived (start d) lines session a b i j
-      → Finished mid_state rest b c j k
-      → (text : List ℕ) × IsLiveOf d bytes text × Appends a c text × HasSpent (effect_of_script d bytes).works i k
-  all_live session a b c i j k p q =
+  -- all of it
+  pub says_all : (session next : Session) (a b c : Option (List ℕ)) (i j k : ℕ)
+      → Lived told (start d) lines session a b i j → Finished told mid_state rest next b c j k
+      → SaysAll told d bytes a c × HasSpent (effect_of_script d bytes).works i k
+  says_all session next a b c i j k p q =
       let turns : List Turn = p.turns ++ q.turns in
-      let are : lines_in turns ≡ all_lines bytes = both_lines (start d) lines rest p.turns q.turns p.lines_are q.lines_are in
-      let told : AreTold (start d) turns = both_told (start d) lines rest p.turns q.turns p.lines_are p.told q.told in
-      let text : List ℕ = text_of (start d) turns ++ end_of d bytes in
       let end : List ℕ = (at_end (effect_of_all mid_state rest).state).reply in
-      let first : List ℕ = text_of (start d) p.turns in
-      let second : List ℕ = text_of mid_state q.turns in
-      let same : first ++ (second ++ end) ≡ text =
-      sym (append_assoc first second end) ∙ ap (λ (t : List ℕ). t ++ end) (both_text (start d) lines rest p.turns q.turns p.lines_are) ∙ ap (λ (t : List ℕ). text_of (start d) turns ++ t) end_is in
-      let live : IsLiveOf d bytes text = record { turns = turns; lines = are; told = told; whole = refl; output = output_is d bytes turns are; follows = follows d turns told } in
+      let first : List ℕ = text_by told (start d) p.turns in
+      let second : List ℕ = text_by told mid_state q.turns in
+      let same : first ++ (second ++ end) ≡ text_by told (start d) turns ++ end_of d bytes =
+      sym (append_assoc first second end) ∙ ap (λ (t : List ℕ). t ++ end) (both_text told (start d) lines rest p.turns q.turns p.lines_are) ∙ ap (λ (t : List ℕ). text_by told (start d) turns ++ t) end_is in
       let e : Effect = effect_of_all (start d) lines in
       let f : Effect = effect_of_all mid_state rest in
       let spent : HasSpent (effect_of_all (start d) (all_lines bytes)).works i k =
       subst (λ (t : Effect). HasSpent t.works i k) (sym (all_append (start d) lines rest)) (spent_more e.works f.works i j k p.spent q.spent) in
-      (text, live, subst (Appends a c) same (appends_more a b c first (second ++ end) p.written q.written), spent_all d bytes i k spent)
+      let says : SaysAll told d bytes a c = record {
+        turns = turns;
+        lines = both_lines told (start d) lines rest p.turns q.turns p.lines_are q.lines_are;
+        changed = both_changed told (start d) lines rest p.turns q.turns p.lines_are p.changed q.changed;
+        written = subst (Appends a c) same (appends_more a b c first (second ++ end) p.written q.written);
+      } in
+      (says, spent_all d bytes i k spent)
 
   -- some of it
-  pub all_some : (session : Session) (b : Option (List ℕ)) (i j : ℕ) (old new : Outside)
-      → Lived (start d) lines session old.held b i j → Unfinished mid_state rest b new.held
-      → TellsSome d bytes old new
-  all_some session b i j old new p q =
+  pub says_some : (session : Session) (a b c : Option (List ℕ)) (i j : ℕ)
+      → Lived told (start d) lines session a b i j → Unfinished told mid_state rest b c → SaysSome told d bytes a c
+  says_some session a b c i j p q =
       let turns : List Turn = p.turns ++ q.turns in
       let end : List ℕ = (at_end (effect_of_all mid_state rest).state).reply in
-      let first : List ℕ = text_of (start d) p.turns in
-      let second : List ℕ = text_of mid_state q.turns in
-      let same : first ++ (second ++ behind_all q.left end) ≡ text_of (start d) turns ++ behind_all q.left (end_of d bytes) =
-      sym (append_assoc first second (behind_all q.left end)) ∙ ap (λ (t : List ℕ). t ++ behind_all q.left end) (both_text (start d) lines rest p.turns q.turns p.lines_are)
-      ∙ ap (λ (t : List ℕ). text_of (start d) turns ++ behind_all q.left t) end_is in
+      let first : List ℕ = text_by told (start d) p.turns in
+      let second : List ℕ = text_by told mid_state q.turns in
+      let same : first ++ (second ++ behind_all q.left end) ≡ text_by told (start d) turns ++ behind_all q.left (end_of d bytes) =
+      sym (append_assoc first second (behind_all q.left end)) ∙ ap (λ (t : List ℕ). t ++ behind_all q.left end) (both_text told (start d) lines rest p.turns q.turns p.lines_are)
+      ∙ ap (λ (t : List ℕ). text_by told (start d) turns ++ behind_all q.left t) end_is in
       record {
         turns = turns;
         left = q.left;
-        lines = both_and_left (start d) lines rest p.turns q.turns p.lines_are q.left q.lines_are;
-        told = both_told (start d) lines rest p.turns q.turns p.lines_are p.told q.told;
-        written = subst (AppendsSome old.held new.held) same (some_after old.held b new.held first (second ++ behind_all q.left end) p.written q.written);
+        lines = both_and_left told (start d) lines rest p.turns q.turns p.lines_are q.left q.lines_are;
+        changed = both_changed told (start d) lines rest p.turns q.turns p.lines_are p.changed q.changed;
+        written = subst (AppendsSome a c) same (some_after a b c first (second ++ behind_all q.left end) p.written q.written);
       }
 
 -- some of what is told of the first bytes
-some_first : (d : ℕ) (bytes x y : List ℕ) (old new : Outside) → bytes ≡ x ++ y
-    → Begun (start d) (lines_of x) old.held new.held → TellsSome d bytes old new
-some_first d bytes x y old new e p =
+pub says_first : (told : Talk) (d : ℕ) (bytes x y : List ℕ) (a c : Option (List ℕ)) → bytes ≡ x ++ y
+    → Begun told (start d) (lines_of x) a c → SaysSome told d bytes a c
+says_first told d bytes x y a c e p =
     let more = first_lines x y in
-    let b : Begun (start d) (lines_of x ++ more.0) old.held new.held = begun_rest (start d) (lines_of x) more.0 old.held new.held p in
+    let b : Begun told (start d) (lines_of x ++ more.0) a c = begun_rest told (start d) (lines_of x) more.0 a c p in
     record {
       turns = b.turns;
       left = b.left;
       lines = b.lines_are ∙ sym more.1 ∙ ap all_lines (sym e);
-      told = b.told;
-      written = some_more old.held new.held (text_of (start d) b.turns) (behind_all b.left (end_of d bytes)) b.written;
+      changed = b.changed;
+      written = some_more a c (text_by told (start d) b.turns) (behind_all b.left (end_of d bytes)) b.written;
     }
 
-pub some_known : (d : ℕ) (script left : Option (List ℕ)) (read : List ℕ) (old new : Outside) → Consumes script left read
-    → Begun (start d) (lines_of (take limit read)) old.held new.held
-    → IfSome script (λ bytes. TellsSome d bytes old new)
-some_known d None left read old new taken p = tt
-some_known d (Some bytes) None read old new taken p = absurd taken
-some_known d (Some bytes) (Some later) read old new taken p =
-    some_first d bytes (take limit read) (drop limit read ++ later) old new
+pub says_known : (told : Talk) (d : ℕ) (script left : Option (List ℕ)) (read : List ℕ) (a c : Option (List ℕ))
+    → Consumes script left read → Begun told (start d) (lines_of (take limit read)) a c
+    → IfSome script (λ bytes. SaysSome told d bytes a c)
+says_known told d None left read a c taken p = tt
+says_known told d (Some bytes) None read a c taken p = absurd taken
+says_known told d (Some bytes) (Some later) read a c taken p =
+    says_first told d bytes (take limit read) (drop limit read ++ later) a c
     (taken ∙ ap (λ (r : List ℕ). r ++ later) (sym (take-append-drop limit read)) ∙ append_assoc (take limit read) (drop limit read) later) p
 
 -- likewise of what is told of what was read
-pub some_read : (d : ℕ) (read : List ℕ) (old new : Outside)
-    → Begun (start d) (lines_of (take limit read)) old.held new.held → TellsSome d read old new
-some_read d read old new p = some_first d read (take limit read) (drop limit read) old new (sym (take-append-drop limit read)) p
+pub says_read : (told : Talk) (d : ℕ) (read : List ℕ) (a c : Option (List ℕ))
+    → Begun told (start d) (lines_of (take limit read)) a c → SaysSome told d read a c
+says_read told d read a c p = says_first told d read (take limit read) (drop limit read) a c (sym (take-append-drop limit read)) p
