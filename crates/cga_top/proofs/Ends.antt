@@ -127,7 +127,8 @@ too_long_means told d status old mid new session pending read r many most reads 
     (λ failed. (failed, read_some told d read old mid new session pending r f.source f.held))
 
 -- the whole script was read
-module _ (told : Talk) (d : ℕ) (read : List ℕ) (old mid : Outside) (session : Session) (pending : Pending) (r : IsRead told d read old mid session pending) (few : length read ≤ limit) (at_end : IsAtEnd mid.left) where
+module _ (told : Talk) (d : ℕ) (read : List ℕ) (old mid : Outside) (session : Session) (pending : Pending) (r : IsRead told d read old mid session pending)
+    (few : length read ≤ limit) (at_end : IsAtEnd mid.left) where
   all_read : (bytes : List ℕ) → old.left ≡ Some bytes → take limit read ≡ bytes
   all_read bytes known = take_all limit read few ∙ all_taken read bytes mid.left (subst (λ (left : Option (List ℕ)). Consumes left mid.left read) known r.gave.taken) at_end
 

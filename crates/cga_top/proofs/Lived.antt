@@ -116,7 +116,8 @@ same_line p bytes long b l = ap (λ (x : List ℕ). line_of x long) b ∙ ap (li
 pub line_effect : (s : State) (line : Line) → effect_of_all s (line ∷ []) ≡ effect s line
 line_effect s line = all_more s line [] ∙ ap (followed_by (effect s line)) (all_none (effect s line).state) ∙ followed_silent (effect s line)
 
-module _ (told : Talk) (s : State) (line : Line) (old mid : Session) (reply : List ℕ) (i j : ℕ) (forgot : old.city.changes ≡ no_changes) (did : Did (effect s line) old.city.changes mid reply i j) where
+module _ (told : Talk) (s : State) (line : Line) (old mid : Session) (reply : List ℕ) (i j : ℕ)
+    (forgot : old.city.changes ≡ no_changes) (did : Did (effect s line) old.city.changes mid reply i j) where
   -- a line was done, and its reply and what it changed were written
   pub lived_line : (new : Session) (a b c : Option (List ℕ)) → Appends a b reply
       → Appends b c (told mid.city.changes) → IsAt (effect s line).state new → new.city.changes ≡ no_changes
@@ -186,7 +187,8 @@ pub goes_on : (told : Talk) (s : State) (all left more : List Line) (session : S
     → left ≡ more → Underway told s all left session a b i j → Underway told s all more session a b i j
 goes_on told s all left more session a b i j e p = subst (λ (l : List Line). Underway told s all l session a b i j) e p
 
-module _ (told : Talk) (s : State) (all left more : List Line) (line : Line) (session : Session) (a b c : Option (List ℕ)) (i j : ℕ) (e : left ≡ line ∷ more) (p : Underway told s all left session a b i j) where
+module _ (told : Talk) (s : State) (all left more : List Line) (line : Line) (session : Session) (a b c : Option (List ℕ)) (i j : ℕ)
+    (e : left ≡ line ∷ more) (p : Underway told s all left session a b i j) where
   so_far : (p.done ++ line ∷ []) ++ more ≡ all
   so_far = append_assoc p.done (line ∷ []) more ∙ ap (λ (l : List Line). p.done ++ l) (sym e) ∙ p.both
 

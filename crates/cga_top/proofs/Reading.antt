@@ -88,7 +88,8 @@ reads_kept told d read old mid session lines given left ended failed r none keep
   calm = r.calm;
 }
 
-module _ (told : Talk) (d : ℕ) (read chunk piece : List ℕ) (old mid new : Outside) (session : Session) (lines : Pending) (few : length read ≤ limit) (first : piece ≡ take (limit - length read) chunk) (r : IsRead told d read old mid session lines) (more : Gave chunk mid new) where
+module _ (told : Talk) (d : ℕ) (read chunk piece : List ℕ) (old mid new : Outside) (session : Session) (lines : Pending)
+    (few : length read ≤ limit) (first : piece ≡ take (limit - length read) chunk) (r : IsRead told d read old mid session lines) (more : Gave chunk mid new) where
   abbrev so_far : State
   so_far = (effect_of_all (start d) (lines_of (take limit read))).state
 
