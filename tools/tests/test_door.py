@@ -25,7 +25,6 @@ from cga_city_lib.program import is_here  # noqa: E402
 from cga_city_lib.traced import Traced  # noqa: E402
 
 TELLER = TESTS / "live_stand_in"
-GLB = TOP / "examples" / "pipeline" / "glb"
 SCRIPT = """rules
 attr storey = 3
 1: house -> S(1r, storey, 1r) I("cube")
@@ -196,7 +195,7 @@ class ByStandIn(Given):
 
     def test_merged_towns_and_glb(self):
         self.town.write_text("\n".join(of_script(3).lines))
-        for tool, ending in (("merge", "obj"), (GLB, "glb")):
+        for tool, ending in (("merge", "obj"), ("glb", "glb")):
             targets = [self.top / f"{name}.{ending}" for name in ("script", "obj")]
             self.call(tool, "--program", TELLER, self.script, targets[0])
             self.call(tool, self.town, targets[1])
