@@ -6,7 +6,7 @@ import re
 import shutil
 import subprocess
 from pathlib import Path
-from typing import IO, Callable, Sequence, Union
+from typing import IO, Any, Callable, Sequence, Union
 
 from .begun import begun
 
@@ -35,8 +35,14 @@ ATTRIBUTES = {
     '"frame-pointer"="all"': '"frame-pointer"="none"',
     '"target-cpu"="x86-64"': '"target-cpu"="x86-64-v2"',
 }
+FUNCTION = re.compile(r"^(?=define )", re.MULTILINE)
+NAME = re.compile(r'@(?:"[^"]*"|[\w.$-]+)')
 TARGET = "x86_64-unknown-linux-gnu"
 FLAGS = f"--target={TARGET} -march=x86-64-v2 --no-default-config -ffunction-sections -fdata-sections -fPIE -O2".split()
+ALLOCATOR = {
+    "MIMALLOC_ALLOW_LARGE_OS_PAGES": "1",
+    "MIMALLOC_PURGE_DELAY": "-1",
+}  # of the front end: fewer calls of the system
 PAUSE = 10  # seconds between two lines of progress
 Tell = Callable[[str], None]
 
@@ -48,6 +54,23 @@ def without_checks(text: str) -> str:
     for watched, plain in ATTRIBUTES.items():
         text = text.replace(watched, plain)
     return text
+
+
+def only_reached(text: str) -> str:
+    """The program without the functions that nothing reaches, three of five, which would be looked at before they are dropped."""
+    head, *functions = FUNCTION.split(text)
+    rest, bodies = [head], {}
+    for function in functions:
+        body, _, behind = function.partition("\n}\n")
+        bodies[NAME.search(body).group()] = body  # type: ignore[union-attr]
+        rest.append(behind)
+    reached, waiting = set(), ["@main", *NAME.findall("".join(rest))]
+    while waiting:
+        name = waiting.pop()
+        if name in bodies and name not in reached:
+            reached.add(name)
+            waiting += NAME.findall(bodies[name])
+    return "".join(rest + [f"{body}\n}}\n" for name, body in bodies.items() if name in reached])
 
 
 def kit_here() -> Path:
@@ -91,7 +114,7 @@ class Steps:
     def __init__(self, said: IO[bytes], tell: Tell) -> None:
         self.said, self.tell = said, tell
 
-    def run(self, what: str, words: Sequence[Union[str, Path]], **how: Path) -> int:
+    def run(self, what: str, words: Sequence[Union[str, Path]], **how: Any) -> int:
         self.tell(what)
         streams = {"stdin": subprocess.DEVNULL, "stdout": self.said, "stderr": self.said}
         with begun([os.fspath(word) for word in words], **streams, **how) as job:
@@ -106,10 +129,11 @@ def compile_by(kit: Path, folder: Path, program: Path, work: Path, said: IO[byte
     """Whether the program of a crate's folder came about."""
     steps, own, module, made = Steps(said, tell), kit_with(kit, work), work / "module.ll", work / "module.o"
     try_it = [own / "bin" / "rt", "try", "--steps", "1", "--seconds", "1"]
-    steps.run("step 1 of 2, the sources are compiled", try_it, cwd=folder)  # the refusal of its own clang ends it
+    lean = {**os.environ, **ALLOCATOR}
+    steps.run("step 1 of 2, the sources are compiled", try_it, cwd=folder, env=lean)  # its own clang's refusal ends it
     if not module.exists():
         return False
-    module.write_text(without_checks(module.read_text(encoding="utf-8")), encoding="utf-8")
+    module.write_text(only_reached(without_checks(module.read_text(encoding="utf-8"))), encoding="utf-8")
     clang = [kit / "toolchain" / "bin" / "clang", *FLAGS, "-c", "-x", "ir", module, "-o", made]
     link = [kit / "bin" / "rattle-link", "--target", TARGET, "--toolchain", kit / "toolchain", "-o", program, made]
     libraries = [kit / "c" / "libos_c.a", kit / "c" / "liblibc_c.a"]
