@@ -129,7 +129,7 @@ class Kept(unittest.TestCase):
             for line in edits(beside.kind, dice, 12):
                 beside.ask(line)
             beside.kept.live.kill()
-            beside.kept.live.wait()
+            beside.kept.close()
             with (beside.folder / "edits").open("a") as file:
                 file.write("lot s5 1 0 0 8 10 sh")  # as a write that was cut off
             beside.begin()
