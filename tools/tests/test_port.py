@@ -12,9 +12,11 @@ TESTS = Path(__file__).resolve().parent
 TOP = TESTS.parent.parent
 sys.path[:0] = [str(TESTS), str(TESTS.parent)]
 
+from cga_city_lib.obj import Solid, Town  # noqa: E402
 from cga_city_lib.port.reader import declarations  # noqa: E402
 from cga_city_lib.port.script import Script  # noqa: E402
 from cga_city_lib.port.tokens import tokens_of  # noqa: E402
+from defined import defined_run  # noqa: E402
 from in_process import called  # noqa: E402
 
 DEFINE = str(TOP / "tools" / "define")
@@ -158,6 +160,12 @@ def rules(text: str) -> List[str]:
     return [re.sub(r"^\d+: ", "", line) for line in script(text).text().split("\n")]
 
 
+def box(town: Town, solid: Solid) -> Tuple[List[float], List[float]]:
+    """The least and the greatest coordinate of a solid along each axis."""
+    axes = list(zip(*(town.points[at] for face in solid.faces for at in face)))
+    return [min(axis) for axis in axes], [max(axis) for axis in axes]
+
+
 class Forms(unittest.TestCase):
     def test_each_form(self) -> None:
         for cga, wanted in ROWS:
@@ -206,6 +214,16 @@ class Files(unittest.TestCase):
                 self.assertIn(f" {left_out} things left out", said[1])
                 self.assertIn("# left out, line ", text)
                 self.assertIn("0 refused, 0 shapes came to nothing", said[-2])
+
+    def test_railings_stand_on_slabs_and_dormers_have_windows(self) -> None:
+        """A front of 9 has four bays: their windows in five storeys and a mansard, and their balconies in two storeys."""
+        script = self.ported("haussmann.cga")[1].replace("\nquiet\n", "\n").replace("\nmodel\n", "\nprint\n")
+        town = Town(defined_run("", script.encode())[1])
+        lot = [(solid.symbol, box(town, solid)) for solid in town.lots["lot_1"]]
+        slabs, bars = ([ends for symbol, ends in lot if symbol == name] for name in ("Slab", "Bar"))
+        self.assertEqual(([symbol for symbol, _ in lot].count("Window_mesh"), len(slabs)), (4 * 6, 4 * 2))
+        for low, high in bars:
+            self.assertTrue(any(all(a[i] <= low[i] and high[i] <= b[i] for i in (0, 2)) for a, b in slabs), (low, high))
 
     def test_other_tools_name_this_one(self) -> None:
         for tool, status in (("lint", 2), ("table", 1), ("explain", 1), ("format", 2)):
