@@ -187,6 +187,25 @@ class Forms(unittest.TestCase):
         comments = [line for line in rules(text) if line.startswith("# ")]
         self.assertEqual(comments[1:], ["# A house.", "# By hand.", "# tall", "# and more", "# below"])
 
+    def test_reports_of_what_is_drawn(self) -> None:
+        """A report whose number a solid has is a column of tools/table, under the symbol that draws."""
+        for body, wanted in (
+            ('report("m 2", geometry.area) color("#ff0000")', "# report m_2 A area"),
+            ('report("n", 2)', "# report n A solids * 2"),
+            (
+                's(\'1, \'1, 0.5) i("builtin:cube") report("volume", 0.5 * geometry.volume)',
+                "# report report_volume A volume * 0.5",
+            ),
+            ('report("m2", geometry.area) extrude(1)', ""),  # another shape is drawn
+            ('report("m2", geometry.area) B', ""),
+            ('case scope.sx > 2 : report("m2", geometry.area) else : NIL', ""),
+            ('report("m2", geometry.area * high)', ""),
+        ):
+            with self.subTest(body):
+                told = [line for line in rules(f"attr high = 3\n{HEAD}A --> {body}") if "report" in line]
+                self.assertEqual([line for line in told if line.startswith("# report")], [wanted] * bool(wanted))
+                self.assertEqual([line[:16] for line in told if line != wanted], ["# nearly, line 3"] * (not wanted))
+
     def test_colours_go_by_symbol(self) -> None:
         """A colour reaches all below that has none of its own; a symbol that is met in two has two symbols."""
         made = script(

@@ -5,9 +5,12 @@ import tempfile
 import unittest
 from fractions import Fraction
 from pathlib import Path
+from unittest import mock
 
 from drawn import Drawn
 from in_process import TOP, called, proved_program
+from cga_city_lib.obj import Town
+from defined import defined_run
 
 
 class Written(unittest.TestCase):
@@ -184,6 +187,29 @@ class Tables(Written):
                 self.refused(told)
         self.town.unlink()
         self.refused("No such file")
+
+    def test_reported_columns(self):
+        """In each lot three quads of 0.5 by 2, and a box of 1.5 by 1 by 1 whose sides are 5; reports of one name are added up."""
+        self.town = self.top / "town.cga"
+        self.town.write_text(
+            "# report glass pane area\n# report glass box side * 0.6\n# report many pane solids * 1/3\n# report top pane area\n"
+            "# report m2 pane areas\n# report none other area\n# report on the whole\nrules\n1: a -> S(1r, 2, 1r) b\n"
+            '2: b -> Subdiv("X", 0.5, 0.5, 0.5, 1r) { pane | pane | pane | S(1r, 1, 1) box }\n'
+            '3: pane -> I("quad")\n4: box -> I("cube")\nend\nlot l 1 0 0 3 1 a\nlot m 2 9 0 3 1 a\n'
+        )
+        for words, known in (
+            ((), [("6", "1", "0"), ("6", "1", "0")]),
+            (("--by", "symbol"), [("6", "0", "0"), ("6", "2", "0")]),
+            (("--by", "both"), [("3", "0", "0"), ("3", "1", "0")] * 2),
+        ):
+            with self.subTest(words):
+                with mock.patch("cga_city_lib.door.teller", lambda _: None), mock.patch(
+                    "cga_city_lib.door.asked",
+                    lambda script, _: Town(defined_run("", "\n".join([*script.lines, "print"]).encode())[1]),
+                ):
+                    rows = self.rows(*words)
+                self.assertEqual([(row["glass"], row["many"], row["none"]) for row in rows], known)
+        self.assertEqual([line.split(": ")[1].split(":")[-1] for line in self.said.splitlines()], ["4", "5", "6"])
 
     def test_words(self):
         self.write(Drawn().lot("a").solid("x", "cube", (0, 0, 0), (1, 1, 1)))

@@ -14,6 +14,7 @@
     narrow        what a rule makes of shapes that are too narrow for it
     components    faces and edges of a scope
     steps         an operation each: moves, sizes, turns, extrusions, borders
+    reports       reports as columns of a table
     roofs         roofs by their angles
     walk          a successor, item by item
     handlers      which item is done by what

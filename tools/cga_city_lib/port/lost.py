@@ -31,6 +31,7 @@ class Remarks:
     def __init__(self) -> None:
         self.all: List[Remark] = []
         self.at = 0
+        self.stated: List[str] = []  # comments that aren't counted, since the last `taken`
 
     def lost(self, line: int, written: str, reason: str) -> None:
         self.add(Remark(line, written, reason, True))
@@ -42,13 +43,19 @@ class Remarks:
         if remark not in self.all:
             self.all.append(remark)
 
+    def state(self, comment: str) -> None:
+        """Keeps a comment that the script is read by."""
+        if comment not in self.stated:
+            self.stated.append(comment)
+
     def taken(self) -> List[str]:
         """The comments for the remarks since the last call."""
         new, self.at = self.all[self.at :], len(self.all)
         alike: Dict[Tuple[str, bool], List[Remark]] = {}
         for remark in new:
             alike.setdefault((remark.reason, remark.is_lost), []).append(remark)
-        return [comment(remarks) for remarks in alike.values()]
+        stated, self.stated = self.stated, []
+        return [*map(comment, alike.values()), *stated]
 
     def many(self, is_lost: bool) -> int:
         return sum(remark.is_lost == is_lost for remark in self.all)

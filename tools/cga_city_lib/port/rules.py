@@ -151,8 +151,8 @@ class Port:
             self.rises[name] = value, why
         return self.known.names.of(name)
 
-    def column(self, key: str, item: Operation, context: Context) -> str:
-        """The column of tools/table that has a report's number."""
+    def column(self, item: Operation, context: Context) -> str:
+        """The column of tools/table that comes near to a report's number."""
         names = {name.partition("(")[0] for arg in item.args[1:] for name in names_in(arg)}
         column = next((COLUMNS[name] for name in COLUMNS if name in names), "solids")
         if self.traits.own[context.rule].children:

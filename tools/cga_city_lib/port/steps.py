@@ -5,9 +5,10 @@ from typing import Callable, Dict, List, Tuple
 from .forms import DEPTH, FLAT, TO_GROUND
 from .look import PLAIN, colour_of, picture_of
 from .lost import Lost
+from .reports import report
 from .roofs import pyramid, roof, shed, taper
 from .sizes import length_of
-from .tree import Item, Name, Number, Operation, Text, Unary, Value
+from .tree import Item, Name, Number, Operation, Unary, Value
 from .values import PRODUCT
 from .walk import Walk
 
@@ -176,11 +177,6 @@ def setting(walk: Walk, item: Operation) -> None:
     if name not in walk.context.port.carried.names:
         raise Lost("a text or a value that is set has no effect on what stands below")
     walk.here = {**walk.here, name: walk.writer.written(item.args[1]).at(PRODUCT)}
-
-
-def report(walk: Walk, item: Operation) -> None:
-    key = item.args[0].text if item.args and isinstance(item.args[0], Text) else ""
-    walk.nearly(item, walk.context.port.column(key, item, walk.context))
 
 
 def primitive(walk: Walk, item: Operation) -> None:

@@ -1,5 +1,5 @@
 """A successor, item by item: the items of a script that do what an operation or a part of CGA does."""
-from typing import Dict, List, Optional
+from typing import Dict, List, Optional, Tuple
 
 from .context import Context
 from .forms import ROOFS, State, drawn
@@ -15,6 +15,7 @@ class Walk:
         self.context, self.state, self.here = context, state, here
         self.texts: List[str] = []
         self.moves: List[str] = []  # those that nothing follows yet
+        self.reports: List[Tuple[str, str]] = []  # names and columns of what is drawn
         self.is_due = True
 
     @property
@@ -57,13 +58,19 @@ class Walk:
 
     def draw(self) -> None:
         """Draws the shape, by a symbol of its own where its look is another than what the rule has drawn, or by its form."""
+        symbol = self.drawing()
+        self.make(drawn(self.state) if symbol == self.context.symbol else symbol)
+        for name, column in self.reports:
+            self.context.port.remarks.state(f"# report {name} {symbol} {column}")
+
+    def drawing(self) -> str:
+        """The symbol that draws the shape."""
         context, state = self.context, self.state
         if state.form in ROOFS or state.form == "mesh":
-            self.make(context.port.formed(context, state))
-        elif state.look != context.port.looks.setdefault(context.symbol, state.look):
-            self.make(context.port.leaf(context.symbol, state, context.symbol))
-        else:
-            self.make(drawn(state))
+            return context.port.formed(context, state)
+        if state.look != context.port.looks.setdefault(context.symbol, state.look):
+            return context.port.leaf(context.symbol, state, context.symbol)
+        return context.symbol
 
     def inner(self, body: Body, state: State, here: Optional[Dict[str, str]] = None) -> str:
         """The items of a body in another state, as one text."""
