@@ -3,8 +3,9 @@ import subprocess
 from itertools import islice
 
 from .pipe import Ended, while_written
+from .program import output
 from .replies import replies
-from .script import text_of
+from .script import text_of, words_of
 from .sources import frugal
 
 
@@ -60,6 +61,19 @@ class Live:
     def stop(self):
         """Ends the program, from whatever thread; who waits for its replies is told."""
         self.process.terminate()
+
+
+def asking(program):
+    """A function that gives the replies to lines, none where the program fails. What would print is `stats`, and changes are
+    left out."""
+
+    def ask(lines):
+        quiet = ["stats" if words_of(line) in (["quiet"], ["print"], ["model"]) else line for line in lines]
+        status, out = output(program, text_of(quiet))
+        told = Lines(iter(out.splitlines(True)), lambda *_: None)
+        return list(replies(told)) if status == 0 else []
+
+    return ask
 
 
 def tells_changes(program):

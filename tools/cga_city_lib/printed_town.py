@@ -9,7 +9,7 @@ class PrintedTown:
     """Shows what scripts come to: of the whole town that is printed each time only the difference is told."""
 
     def __init__(self, program, shown):
-        self.session, self.shown, self.meshes = Session(program), shown, Meshes()
+        self.program, self.session, self.shown, self.meshes = program, Session(program), shown, Meshes()
         self.lines, self.stats, self.worked, self.drawn = [], None, None, None
 
     def stop(self):

@@ -6,6 +6,7 @@ from itertools import chain
 
 from . import about, kept_views, own_meshes, panel_words, variants
 from .call import Refused
+from .live import asking
 from .pipe import Ended
 from .replies import is_refused
 from .report import Report
@@ -111,7 +112,8 @@ class Watch:
     def said(self, lines, found, answers, faults):
         """What is wrong with a script."""
         if faults or any(map(is_refused, answers)):
-            yield from Report(self.path, lines, found, answers).lines_for(faults)
+            ask = asking(self.town.program)  # of a refused block all refusals are asked for
+            yield from Report(self.path, lines, found, answers, ask=ask).lines_for(faults)
         elif not found:
             yield f"{self.path}: {EMPTY}"
         for number, text in chain.from_iterable(kept.unread(lines) for kept in (*KEPT, own_meshes)):

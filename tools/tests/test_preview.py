@@ -159,6 +159,12 @@ class Live(Preview):
         self.assertEqual(list(self.page.drawn()), ["a house cube 0 0 0 +X+Y+Z 10 3 8"])
         self.assertEqual(self.page.head["said"], f"{self.script}:8: {path}: No such file or directory")
 
+    def test_all_refused_lines_of_a_block_are_told(self):
+        self.begin(RULES + A + B)
+        self.then(RULES.replace("rules\n", 'rules\n8: x -> J("cube")\n9: y -> J("cube")\n') + A + B)
+        places = re.findall(r"town.cga:(\d+:\d+): Unexpected", self.page.head["said"])
+        self.assertEqual([place.split(":")[1] for place in places], ["9", "9"], self.page.head["said"])
+
     def test_a_typo_leaves_the_town(self):
         self.begin(RULES + A + B)
         wrong = RULES.replace('h, 1r) I("cube")', 'h, 1r) I("cub")')
