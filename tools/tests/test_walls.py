@@ -1,6 +1,8 @@
 """Walls with a thickness, dimensions, heights and DXF of drawings. Expected numbers are by hand."""
 import re
 import tempfile
+import shutil
+import subprocess
 import unittest
 import xml.etree.ElementTree as tree
 from pathlib import Path
@@ -129,6 +131,14 @@ class Files(Room):
             elif is_open and found:
                 found[-1][1].setdefault(code, value)
         return found, [value for code, value in pairs if code == 2]
+
+    @unittest.skipUnless(shutil.which("ogrinfo"), "ogrinfo isn't there (Debian: gdal-bin)")
+    def test_gdal_reads_each_line_and_text(self):
+        found, _ = self.entities()
+        told = subprocess.run(
+            ["ogrinfo", "-so", self.town.with_suffix(".dxf"), "entities"], check=True, capture_output=True, text=True
+        ).stdout
+        self.assertIn(f"Feature Count: {sum(kind in ('LINE', 'TEXT') for kind, _ in found)}\n", told)
 
     def test_layers(self):
         found, names = self.entities("--plan", "0.5", "--wall", "wall=0.3", "--names", "--dimension", "0,0,3,4")
