@@ -5,7 +5,7 @@ import re
 import subprocess
 import sys
 from pathlib import Path
-from typing import List, Tuple
+from typing import List, Optional, Tuple
 
 from .browser import Browser, Silent
 from .call import Refused
@@ -42,10 +42,10 @@ def pictures(browser: Browser, address: str, name: str, value: str, view: str) -
     return [before, screen(browser)]
 
 
-def edit_picture(script: str, program: str, setting: str, view: str, size: Tuple[int, int]) -> bytes:
+def edit_picture(script: str, program: Optional[str], setting: str, view: str, size: Tuple[int, int]) -> bytes:
     """An APNG of the script's town before and behind a setting, as `storey=4.2`."""
     name, _, value = setting.partition("=")
-    words = [sys.executable, str(PREVIEW), "--port", "0", "--program", program, script]
+    words = [sys.executable, str(PREVIEW), "--port", "0", *(["--program", program] if program else []), script]
     preview = subprocess.Popen(words, stdout=subprocess.PIPE, text=True)
     browser = Browser(*size, PATIENCE)
     try:
