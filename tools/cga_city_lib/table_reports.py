@@ -3,9 +3,11 @@ They mean nothing to the program."""
 import re
 from collections import Counter
 from fractions import Fraction
-from typing import Callable, Dict, List, NamedTuple, Optional, Set, Tuple
+from typing import Any, Callable, Dict, List, NamedTuple, Optional, Set, Tuple
 
+from .call import said
 from .forms import Form
+from .instances import symbols
 from .measure import Measured
 from .numerals import numeral
 from .table_rows import KEYS, Key
@@ -79,3 +81,12 @@ def reported(measured: Measured, by: str, reports: List[Report]) -> Callable[[Ke
                     more = number * report.times * value_of(measured, form, report.value)
                     sums[place] = sums.get(place, Fraction(0)) + more
     return lambda key: {name: sums.get((key, name), Fraction(0)) for name in names_of(reports)}
+
+
+def reports_of(found: Any, measured: Measured, by: str) -> Tuple[List[str], Callable[[Key], Dict[str, Fraction]]]:
+    """The names that the script reports, and what gives their cells; a comment that comes to nothing is told."""
+    lines = found.given.text().split("\n") if found.given.is_script else []
+    reports, faults = reports_in(lines, set(symbols(measured.lots)))
+    for number, why in faults:
+        said("table", f"{found.given.path}:{number}: {why}")
+    return names_of(reports), reported(measured, by, reports)
