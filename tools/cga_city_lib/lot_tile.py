@@ -4,7 +4,7 @@ import re
 from array import array
 from typing import Any, Dict, Iterable, List, NamedTuple, Sequence, Tuple
 
-from .colours import colour_of
+from .colours import MATERIALS, shade_of
 from .eye import normal
 from .glb import INDICES, VERTICES, Glb, short
 from .materials import linear
@@ -21,7 +21,7 @@ class Face(NamedTuple):
 
 
 class Mesh:
-    """The triangles of one colour; a face has corners of its own, which share its normal."""
+    """The triangles of one colour and kind of surface; a face has corners of its own, which share its normal."""
 
     def __init__(self) -> None:
         self.places, self.normals = array("f"), array("f")
@@ -36,7 +36,7 @@ class Mesh:
         for k in range(first + 1, first + number - 1):
             self.triangles.extend((first, k, k + 1))
 
-    def primitive(self, made: Glb, colour: Tuple[int, int, int], counts: Sequence[int]) -> Dict[str, Any]:
+    def primitive(self, made: Glb, shade: Sequence[int], counts: Sequence[int]) -> Dict[str, Any]:
         ids = [{"featureCount": count, "attribute": at, "propertyTable": at} for at, count in enumerate(counts)]
         return {
             "attributes": {
@@ -46,15 +46,16 @@ class Mesh:
                 "_FEATURE_ID_1": made.accessor(self.symbols, "SCALAR", VERTICES),
             },
             "indices": made.accessor(short(self.triangles, len(self.lots)), "SCALAR", INDICES),
-            "material": material(made, colour),
+            "material": material(made, *shade),
             "extensions": {FEATURES: {"featureIds": ids}},
         }
 
 
-def material(made: Glb, colour: Tuple[int, int, int]) -> int:
-    factor = [*(linear(part / 255) for part in colour), 1.0]
+def material(made: Glb, red: int, green: int, blue: int, kind: int) -> int:
+    """A colour; its name is the kind of surface, by which the page draws it."""
+    factor = [*(linear(part / 255) for part in (red, green, blue)), 1.0]
     rough = {"baseColorFactor": factor, "metallicFactor": 0.0, "roughnessFactor": 1.0}
-    return int(made.add("materials", {"pbrMetallicRoughness": rough}))
+    return int(made.add("materials", {"name": MATERIALS[kind], "pbrMetallicRoughness": rough}))
 
 
 def property_id(word: str, taken: Iterable[str]) -> str:
@@ -118,13 +119,13 @@ def lot_table(names: Sequence[Tuple[str, str, Dict[str, Any]]]) -> Table:
 def lot_tile(faces: Sequence[Face], tables: Sequence[Table], origin: Corner, extras: Dict[str, Any]) -> bytes:
     """The bytes of the file; places are told from the origin."""
     made, meshes = Glb(), {}  # type: Glb, Dict[Any, Mesh]
-    by_symbol = [meshes.setdefault(colour_of(symbol), Mesh()) for symbol in tables[1].columns["symbol"]]
+    by_symbol = [meshes.setdefault(tuple(shade_of(symbol)), Mesh()) for symbol in tables[1].columns["symbol"]]
     for face in faces:
         by_symbol[face.symbol].add(face, origin)
     if not faces:
         return bytes(made.file([]))
     counts = [table.count() for table in tables]
-    primitives = [mesh.primitive(made, colour, counts) for colour, mesh in meshes.items()]
+    primitives = [mesh.primitive(made, shade, counts) for shade, mesh in meshes.items()]
     told = [table.told(made) for table in tables]
     classes = {table.name: kind for table, (kind, _) in zip(tables, told)}
     made.used |= {FEATURES, METADATA}

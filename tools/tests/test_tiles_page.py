@@ -12,7 +12,10 @@ sys.path[:0] = [str(TESTS), str(TESTS.parent)]
 
 from browser import CHROMIUM, shared  # noqa: E402
 from in_process import called  # noqa: E402
-from regions import RULES, RegionTest  # noqa: E402
+from regions import RULES, STAND_IN, RegionTest, whole  # noqa: E402
+
+from cga_city_lib import page as pages  # noqa: E402
+from cga_city_lib.obj import Town  # noqa: E402
 
 if not CHROMIUM:
     print(
@@ -99,6 +102,20 @@ class InBrowser(Pages):
             " let sum = 0; for (let k = 0; k < seen.length; k += 4) sum += seen[k] - seen[k + 2] > 20; return sum; })()"
         )
 
+    def colours_at(self, places):
+        """The colours of places of the town, and of the sky, from a low view."""
+        self.browser.run(
+            "(() => { refine = () => {}; Object.assign(view, {turn: .4, tilt: .2, lens: 1, far: 8, centre: [4.5, .5, .5]}); draw(); })()"
+        )
+        self.browser.wait("is_asked === false")
+        return self.browser.run(
+            f"(() => {{ draw(); const m = matrix(town).view, seen = new Uint8Array(4), pixel = (x, y) => {{"
+            " gl.readPixels(x, y, 1, 1, gl.RGBA, gl.UNSIGNED_BYTE, seen); return [...seen].slice(0, 3); };"
+            f" return [...{json.dumps(places)}.map(place => {{ const p = [...minus(place, town.offset), 1];"
+            " const [x, y, , w] = [0, 1, 2, 3].map(r => [0, 1, 2, 3].reduce((sum, c) => sum + m[4 * c + r] * p[c], 0));"
+            " return pixel(Math.round((x / w + 1) * 240), Math.round((y / w + 1) * 160)); }), pixel(240, 315)]; })()"
+        )
+
     def look(self, x, y, z, far):
         """Looks at a place of the town from so far off."""
         self.browser.run(
@@ -152,6 +169,26 @@ class InBrowser(Pages):
         self.assertTrue({(round(a, 3), round(c, 3)) for a, c in known} <= seen, seen)
         self.assertEqual(self.seen()[1], 2)
         self.assertGreater(self.colours(), 100)
+
+    def test_tiles_are_drawn_as_a_town_is(self):
+        """A wall, a pane and a lawn look as in the page of their town, with sky, sun and shadow. A place more than a cube away is
+        in the shadow of the wall: the sun stands at (-.38, .73, .57)."""
+        lines = [
+            *RULES,
+            *(f"lot l{at} 1 {4 * at} 0 2 2 {symbol}" for at, symbol in enumerate(["wall", "pane", "lawn"])),
+        ]
+        places = [(0.3, 0.5, 1), (0.5, 1, 0.5), (4.4, 0.5, 1), (8.5, 1, 0.5), (1.25, 0, 0.1), (6, 0, 3)]
+        self.open(self.tiles(lines))
+        shown = self.colours_at(places)
+        page = self.top / "town.html"
+        page.write_text(pages.page(pages.data_of(Town(whole(STAND_IN, lines)[0]), "town")), encoding="utf-8")
+        self.browser.open(page.as_uri())
+        self.browser.wait("town.low !== null && is_asked === false")
+        for place, one, other in zip([*places, "sky"], shown, self.colours_at(places)):
+            self.assertLess(max(abs(a - b) for a, b in zip(one, other)), 12, (place, one, other))
+        *_, shade, sun, sky = shown
+        self.assertLess(sum(shade), sum(sun) - 60)
+        self.assertGreater(sky[2], sky[0])
 
     def test_no_more_is_loaded_than_can_be_drawn(self):
         self.open(self.tiles([*RULES, *lots(4)]))
