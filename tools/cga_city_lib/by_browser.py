@@ -11,7 +11,7 @@ from .page import page
 from .progress import counted
 
 PATIENCE = 120  # seconds for a picture
-MEAN_OF = 6  # pictures that a fine one is the mean of
+MEAN_OF = 8  # pictures that a fine one is the mean of
 DONE = "gl.readPixels(0, 0, 1, 1, gl.RGBA, gl.UNSIGNED_BYTE, new Uint8Array(4))"  # waits until it is drawn
 VIEWS = {  # what the page does for each view
     "bird": "VIEWS.bird()",

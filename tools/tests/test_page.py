@@ -210,6 +210,22 @@ class InBrowser(unittest.TestCase):
         shade, sun = self.pixel(*self.place_of(7, 0, -4)), self.pixel(*self.place_of(-4, 0, 7))
         self.assertLess(sum(shade), sum(sun) - 60)
 
+    def test_a_near_post_is_as_wide_as_it_is(self):
+        """It grows by a part of its own pixels, not by those of the place that is looked at, twenty units off."""
+        self.show(Town(cubes((0, 0, 0, 0.1, 4, 0.1), (0, 0, 40, 1, 1, 1))))
+        self.run_("shows.edges = false; look_from([.05, 1.6, 1.6], 0, 0, 55); see(() => {})")
+        (left, _), (right, _) = (self.place_of(x, 1.6, 0.1) for x in (0, 0.1))
+        row = self.pixels([[x, 160] for x in range(480)])
+        seen = [x for x, colour in enumerate(row) if max(abs(a - b) for a, b in zip(colour, row[0])) > 30]
+        self.assertLessEqual(abs(seen[0] - left) + abs(seen[-1] + 1 - right), 2, (seen[0], seen[-1], left, right))
+
+    def test_the_picture_has_no_frame_and_the_ground_no_end(self):
+        self.show(Town(cubes((0, 0, 0, 4, 8, 4))))
+        for tilt, far in ((0.05, 60), (0.3, 12)):
+            self.run_(f"Object.assign(view, {{tilt: {tilt}, far: {far}}})")
+            column = self.pixels([[20, y] for y in range(320)])
+            self.assertGreater(min(map(sum, column)), 530, "a line of the grid is the darkest")
+
     def test_walls_back_to_back_do_not_flicker(self):
         """Two walls in one plane, of two symbols: each pixel is of one of them, whatever the view."""
         wall = ["g {}", "v 0 0 0", "v 10 0 0", "v 10 6 0", "v 0 6 0", "f {}"]

@@ -75,7 +75,7 @@ function draw_solids(use) {
   for (const batch of town.batches.values()) {
     if (!batch.count) continue;
     send(batch);
-    use({copied: is_copied(batch) ? batch.mesh.corners.length : 0, instances: INSTANCES, corners: CORNERS, toned: tone_rows(batch.mesh)});
+    use({copied: is_copied(batch) ? batch.mesh.corners.length : 0, instances: INSTANCES, corners: CORNERS, toned: tone_rows(batch.mesh), is_turned: +!SOLID_NAMES.has(batch.name)});
     const indices = 3 * batch.triangles;
     if (is_copied(batch)) gl.drawElements(gl.TRIANGLES, indices * batch.total, gl.UNSIGNED_INT, 0);
     else gl.drawElementsInstanced(gl.TRIANGLES, indices, gl.UNSIGNED_INT, 0, batch.total);

@@ -9,7 +9,9 @@ const programs = {shadow: lazy(SHADOW_AT, SHADOW), lines: lazy(LINE_AT, LINE), m
 // A program that is made when it is used first, since that takes long.
 function lazy(vertex, fragment) {
   let made = null;
-  return values => (made = made || program(vertex, fragment))(values);
+  const use = values => use.ready()(values);
+  use.ready = () => made = made || program(vertex, fragment);
+  return use;
 }
 const SIDE = gl && Math.min(is_slow ? 2048 : 4096, gl.getParameter(gl.MAX_TEXTURE_SIZE));
 const SAMPLES = gl && (is_slow ? 0 : Math.min(4, gl.getParameter(gl.MAX_SAMPLES)));
@@ -33,12 +35,16 @@ const floor = gl && plane([[-1, 0, -1], [-1, 0, 1], [1, 0, -1], [1, 0, 1]]);
 const screen_ = gl && plane([[-1, -1], [1, -1], [-1, 1], [1, 1]]);
 const outline = gl && gl.createVertexArray();
 
+// Sends the colours and materials of symbols, where they aren't those that were sent last.
+let painted = '';
 function paint(colours) {
   const high = Math.max(1, Math.ceil(town.symbols.length / 256)), texels = new Uint8Array(4 * 256 * high);
   town.symbols.forEach((symbol, k) => {
     const [red, green, blue, material = 0] = colours[symbol] || [200, 200, 200];
     texels.set([red, green, blue, hidden.has(symbol) ? 0 : 1 + material], 4 * k);
   });
+  if (texels.join() === painted) return;
+  painted = texels.join();
   gl.activeTexture(gl.TEXTURE0 + COLOURS);
   gl.texImage2D(gl.TEXTURE_2D, 0, gl.RGBA, 256, high, 0, gl.RGBA, gl.UNSIGNED_BYTE, texels);
 }
@@ -69,7 +75,7 @@ function shine(dx = 0, dy = 0) {
   gl.clear(gl.DEPTH_BUFFER_BIT);
   gl.enable(gl.POLYGON_OFFSET_FILL);
   gl.polygonOffset(1.5, 4);
-  programs.shadow({sun, colours: COLOURS, grow: 0});
+  programs.shadow({sun, colours: COLOURS, growth: [0, 0, 0, 0]});
   draw_solids(programs.shadow);
   gl.disable(gl.POLYGON_OFFSET_FILL);
   is_shadow_old = dx !== 0 || dy !== 0;
@@ -116,8 +122,12 @@ function draw_ground(common, by) {
   gl.disable(gl.BLEND);
 }
 
-function pixel_at_centre() {
-  return 2 * view.far * view.lens / (axes().wide * parts.width);
+const GROWN = .3; // pixels by which a solid grows
+
+// Gives for a place (x, y, z, 1), multiplied by it, how wide the pixels of GROWN are there.
+function growth_of({near, eye, wide}) {
+  const pixel = GROWN * 2 / (wide * parts.width);
+  return [...near.map(part => -part * pixel), dot(near, eye) * pixel];
 }
 
 const is_parallel = () => view.lens >= FAR_LENS;
@@ -125,14 +135,14 @@ const is_parallel = () => view.lens >= FAR_LENS;
 // What all programs of a picture are told.
 function common_of(seen, moment, is_fine) {
   return {...light_of(sky.way), view: seen.view, sun, shadows: SHADOWS, colours: COLOURS, fine: 1 / SIDE, is_soft: +is_fine,
-    texel: 2 * size_of(lit()) / SIDE, grow: tiles ? 0 : .3 * pixel_at_centre(), nudge: NUDGE, now: moment, cell: cell_of(),
+    texel: 2 * size_of(lit()) / SIDE, growth: tiles ? [0, 0, 0, 0] : growth_of(axes()), nudge: NUDGE, now: moment, cell: cell_of(),
     fades: +!is_still_wanted.matches, foot: town.low[1], eye: axes().eye};
 }
 
 function draw_picture(common, by) {
   gl.bindFramebuffer(gl.FRAMEBUFFER, parts.drawn);
   gl.viewport(0, 0, parts.width, parts.height);
-  gl.clearColor(...(is_parallel() ? PAPER : [0, 0, 0]), 1);
+  gl.clearColor(...(is_parallel() ? PAPER : shown(common.horizon)), 1); // into which the ground fades
   gl.clear(gl.COLOR_BUFFER_BIT | gl.DEPTH_BUFFER_BIT);
   by.solids(common);
   draw_solids(by.solids);

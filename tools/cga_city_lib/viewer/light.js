@@ -33,6 +33,9 @@ function light_of(way) {
   };
 }
 
+// How light is seen on the screen, as SKY has it, too.
+const shown = light => light.map(part => clamp((x => x * (2.51 * x + .03) / (x * (2.43 * x + .59) + .14))(.72 * part), 0, 1) ** (1 / 2.2));
+
 const SKY = `
 uniform vec3 sun_way, sun_light, zenith, horizon, sky_light, bounce;
 uniform float night;

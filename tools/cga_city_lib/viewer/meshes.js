@@ -14,6 +14,8 @@ const SOLIDS = {
   hip_across: {corners: [...BASE, [.5, 1, 0, 0, .5], [.5, 1, 1, 0, -.5]], faces: ACROSS},
 };
 
+const SOLID_NAMES = new Set(Object.keys(SOLIDS)); // without meshes that a town has for itself
+
 function add_meshes(given) {
   for (const name in given) SOLIDS[name] = given[name];
 }

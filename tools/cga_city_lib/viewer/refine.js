@@ -60,6 +60,7 @@ function refine_soon() {
 function refine(k) {
   if (is_asked || !mean || k >= FINE || !town.low || document.hidden) return;
   if (k === 0) {
+    Object.values(programs.fine).forEach(one => one.ready()); // one that is made behind a picture waits until that is drawn
     begin_picture();
     fit_mean();
   }

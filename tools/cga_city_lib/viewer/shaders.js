@@ -1,7 +1,8 @@
 'use strict';
 // The programs of the graphics processor. A vertex finds its instance and its corner by its number, in two textures; a mesh
 // has its corners in a box of size 1, and what bends a hip's ridge to its sizes. It grows by a part of a pixel, so that nothing
-// shines through where corners of one wall stand along the side of another. A part of a tile has its corners as they stand.
+// shines through where corners of one wall stand along the side of another. Towards the eye it grows less, or the edge of a wall
+// between two lots would stand out of their fronts. A part of a tile has its corners as they stand.
 const COLOURS = 0, SHADOWS = 1, PICTURE = 2, DEPTHS = 3, INSTANCES = 4, CORNERS = 5, MEANS = 6; // units of textures
 const PART = -1; // in place of a mesh's number of corners
 
@@ -10,7 +11,10 @@ layout(location = 0) in vec3 own_corner;
 uniform sampler2D colours, instances, corners;
 uniform int copied, toned;
 uniform vec3 shift;
-uniform float own_symbol, grow;
+uniform float own_symbol;
+uniform vec3 eye;
+uniform vec4 growth; // how much a place grows: by its distance
+uniform int is_turned; // whether walls may stand across the axes
 vec4 first, sizes, last, corner, own_tone = vec4(0.);
 void load() {
   if (copied == ${PART}) {
@@ -43,9 +47,14 @@ vec3 spot() {
   float bent_x = bend == 1 || bend == -1 ? .5 * corner.w * sizes.z / sizes.x : 0.;
   float bent_z = bend == 2 || bend == -2 ? .25 * corner.w * sizes.x / sizes.z : 0.;
   vec3 part = (corner.xyz + vec3(bent_x, 0., bent_z)) * sizes.xyz;
-  vec3 more = grow * (2. * corner.xyz - 1.) * vec3(notEqual(sizes.xyz, vec3(0.)));
-  part += more;
-  return first.xyz + along(code % 6, part.x) + along(code / 6 % 6, part.y) + along(code / 36, part.z);
+  vec3 found = first.xyz + along(code % 6, part.x) + along(code / 6 % 6, part.y) + along(code / 36, part.z);
+  float wide = dot(growth, vec4(found, 1.));
+  if (wide == 0.) return found;
+  vec3 more = wide * (2. * corner.xyz - 1.) * vec3(notEqual(sizes.xyz, vec3(0.)));
+  if (is_turned > 0) more.xz *= sizes.xz / max(sizes.x, sizes.z); // so that a wall grows along itself
+  vec3 grown = along(code % 6, more.x) + along(code / 6 % 6, more.y) + along(code / 36, more.z), away = grown * (found - eye);
+  if (is_turned > 0) away.xz = vec2(away.x + away.z);
+  return found + grown * mix(vec3(1.), vec3(.25), vec3(lessThan(away, vec3(0.))));
 }
 `;
 
@@ -192,7 +201,7 @@ uniform int rings, turns;
 uniform vec2 window;
 uniform vec3 right, up, ahead;
 out vec4 colour;
-float nearness(ivec2 p) { return base - 2. * texelFetch(depths, clamp(p, ivec2(0), textureSize(depths, 0) - 1), 0).r; }
+float nearness(ivec2 p) { return base - 2. * texelFetch(depths, p, 0).r; }
 float edge(float bend) { return bend > 0. ? smoothstep(.5, 1.6, bend) : bend > -6. ? .5 * smoothstep(.5, 1.6, -bend) : 0.; }
 float shaded(ivec2 p, float here, float far) {
 #ifdef PLAIN
@@ -205,8 +214,9 @@ float shaded(ivec2 p, float here, float far) {
     for (int k = 0; k < 6; k++) {
       float a = .5236 * float(k) + turn + .26 * float(ring), step_ = r * (.45 + .55 * fract(grain * 7. + .618 * float(k)));
       ivec2 o = ivec2(round(step_ * vec2(cos(a), sin(a))));
+      if (any(lessThan(p, abs(o))) || any(greaterThanEqual(p + abs(o), textureSize(depths, 0)))) continue; // beside the window
       float one = (nearness(p + o) / here - 1.) * far / own, other = (nearness(p - o) / here - 1.) * far / own;
-      dark += (ring == 0 ? 1.1 : .7) * clamp(1.2 * (one + other), 0., 1.) * (1. - smoothstep(.9, 1.8, max(one, other)));
+      dark += (ring == 0 ? 1. : .7) * clamp(1.2 * (one + other) - .12, 0., 1.) * (1. - smoothstep(.9, 1.8, max(one, other)));
     }
   }
   return min(dark / float(6 * rings) * 1.4, 1.);
@@ -222,9 +232,10 @@ void main() {
     colour = vec4(paper > 0. ? own : shown(sky(vec3(way.x, max(way.y, 0.), way.z))), 1.);
     return;
   }
-  float here = nearness(p), across = nearness(p - ivec2(1, 0)) + nearness(p + ivec2(1, 0)), far = range / here;
-  float upright = nearness(p - ivec2(0, 1)) + nearness(p + ivec2(0, 1)), scale = 1. / (here * pixel);
-  float found = max(edge((2. * here - across) * scale), edge((2. * here - upright) * scale));
+  ivec2 q = clamp(p, ivec2(1), textureSize(depths, 0) - 2); // beside the window nothing is known
+  float here = nearness(p), far = range / here, middle = nearness(q), scale = 1. / (middle * pixel);
+  float across = nearness(q - ivec2(1, 0)) + nearness(q + ivec2(1, 0)), upright = nearness(q - ivec2(0, 1)) + nearness(q + ivec2(0, 1));
+  float found = max(edge((2. * middle - across) * scale), edge((2. * middle - upright) * scale));
   float hazy = air > 0. ? 1. - exp(-pow(max(far - clear, 0.) / air, 1.5)) : 0.;
   if (rings > 0) own *= mix(vec3(1.), vec3(.34, .36, .42), shaded(p, here, far) * (1. - hazy));
   own *= 1. - .26 * is_edged * found * (1. - hazy);
