@@ -18,9 +18,6 @@ mod Factors
 mod RandSteps
 mod OneByOne
 mod Loops
-mod Gained
-mod Listings
-mod RuleListings
 mod Blocks
 mod BlocksAgain
 mod Ends

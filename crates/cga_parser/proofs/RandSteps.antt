@@ -10,7 +10,7 @@ use Rattle.cga_form.specs.Tokens.{a_whole}
 use Rattle.cga_rule.specs.declared.expr.Expr.{Expr}
 use Rattle.cga_parser.specs.Grammar.{sign}
 use Rattle.cga_parser.specs.Portions.{rand_steps}
-use Rattle.cga_parser.proofs.Gained.{fails_then}
+use Rattle.cga_parser.proofs.Loops.{fails_then}
 
 module _ {B : Type 0} (b : Reader ℕ) (d : Reader (Unit {0})) (h : ℕ → B) where
   by_end : (n : ℕ) (w : ReadResult (Unit {0}))

@@ -1,18 +1,11 @@
 -- What becomes of what was read.
-use Rattle.std.specs.Prelude.{◌≡◌, Bool, if◌then◌else◌, List, [], ◌∷◌, ◌++◌, Result, Ok, Err}
+use Rattle.std.specs.Prelude.{◌≡◌, Bool, if◌then◌else◌, Result, Ok, Err}
 use Rattle.cga_fraction.specs.declared.stop.Stop.{Stop}
-use Rattle.cga_fraction.specs.declared.stop.Stop.TheVariants as stop
 use Rattle.cga_form.specs.declared.fault.Fault.{Fault}
 use Rattle.cga_form.specs.Cursor.{Fails}
 use Rattle.cga_form.specs.Reader.{Input, ReadResult, begins, skipped}
 use Rattle.cga_form.specs.Tokens.{is_sign}
 use Rattle.cga_lexer.specs.declared.sign.Sign.TheVariants as s
-
--- one member more, unless none was read or memory ran out
-abbrev pub Gains : {A : Type 0} → Result A (Stop Fault) → Result (Unit {0}) (Stop Fault) → List A → List A → Type 0
-Gains (Ok x) (Ok u) old new = new ≡ old ++ x ∷ []
-Gains (Ok x) (Err e) old new = e ≡ stop.NoMemory
-Gains (Err e) made old new = made ≡ Err e
 
 -- something, and what was read after it
 abbrev pub ReadsBoth : {A B : Type 0} → A → ReadResult B → Result (A × B) (Stop Fault) → Input → Type 0

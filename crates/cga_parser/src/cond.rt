@@ -1,10 +1,14 @@
 ghost use Rattle.std.specs.Prelude.{◌≡◌, ◌<◌};
 ghost use Rattle.cga_form.specs.Cursor.{input_of, Finds, Reads};
+ghost use Rattle.cga_form.specs.Reader.{many};
+ghost use Rattle.cga_form.specs.Tokens.{is_keyword};
+ghost use Rattle.cga_syntax.specs.declared.keyword.Keyword.TheVariants as keyword;
 ghost use Rattle.cga_parser.specs.Grammar as spec;
 ghost use Rattle.cga_parser.specs.Portions as portions;
 
 use crate::expr::{all_added, all_scaled, expr};
-use crate::first::{both, ended, fitted, push_read};
+use crate::first::{both, ended, fitted, with_first};
+use crate::members::all_of;
 use cga_form::fault::Fault;
 use cga_form::heads::ScopeWord;
 use cga_form::tokens::Tokens;
@@ -157,13 +161,27 @@ fn test(alloc: Global, tokens: &mut Tokens<'_>, depth: u8) -> Result<Test, Stop<
     comparison(alloc, tokens, depth)
 }
 
+/// The tests after the first.
 #[cycle(cond)]
 #[tactic(auto, unfolding(crate::specs::Grammar::further_test))]
-fn further_test(alloc: Global, tokens: &mut Tokens<'_>, depth: u8) -> Result<Test, Stop<Fault>>
-    ensures { Reads (spec.further_test depth (spec.inner_of depth) (input_of tokens.old)) result (input_of tokens.new) }
+fn further_tests(
+    alloc: Global,
+    tokens: &mut Tokens<'_>,
+    depth: u8,
+) -> Result<List<Test>, Stop<Fault>>
+    ensures { Reads (many (is_keyword keyword.And) (spec.further_test depth (spec.inner_of depth)) (input_of tokens.old)) result (input_of tokens.new) }
 {
-    tokens.keyword(Keyword::And)?;
-    test(alloc, tokens, depth)
+    all_of(
+        alloc,
+        tokens,
+        |rest| rest.at_keyword(Keyword::And),
+        |rest: &mut Tokens<'_>|
+            ensures { Reads (spec.further_test depth (spec.inner_of depth) (input_of rest.old)) result (input_of rest.new) }
+        {
+            rest.keyword(Keyword::And)?;
+            test(alloc, rest, depth)
+        },
+    )
 }
 
 #[cycle(cond)]
@@ -171,23 +189,34 @@ fn further_test(alloc: Global, tokens: &mut Tokens<'_>, depth: u8) -> Result<Tes
 fn conj(alloc: Global, tokens: &mut Tokens<'_>, depth: u8) -> Result<Conj, Stop<Fault>>
     ensures { Reads (spec.conj depth (spec.inner_of depth) (input_of tokens.old)) result (input_of tokens.new) }
 {
-    let mut tests = List::new(alloc);
-    push_read(&mut tests, test(alloc, tokens, depth))?;
-    'tests: while tokens.at_keyword(Keyword::And) {
-        push_read(&mut tests, further_test(alloc, tokens, depth))?;
-    }
+    let first = test(alloc, tokens, depth)?;
+    let (first, rest) = both(first, further_tests(alloc, tokens, depth))?;
     Ok(Conj {
-        tests: fitted(tests),
+        tests: with_first(first, rest)?,
     })
 }
 
+/// The conjunctions after the first.
 #[cycle(cond)]
 #[tactic(auto, unfolding(crate::specs::Grammar::further_conj))]
-fn further_conj(alloc: Global, tokens: &mut Tokens<'_>, depth: u8) -> Result<Conj, Stop<Fault>>
-    ensures { Reads (spec.further_conj depth (spec.inner_of depth) (input_of tokens.old)) result (input_of tokens.new) }
+fn further_conjs(
+    alloc: Global,
+    tokens: &mut Tokens<'_>,
+    depth: u8,
+) -> Result<List<Conj>, Stop<Fault>>
+    ensures { Reads (many (is_keyword keyword.Or) (spec.further_conj depth (spec.inner_of depth)) (input_of tokens.old)) result (input_of tokens.new) }
 {
-    tokens.keyword(Keyword::Or)?;
-    conj(alloc, tokens, depth)
+    all_of(
+        alloc,
+        tokens,
+        |rest| rest.at_keyword(Keyword::Or),
+        |rest: &mut Tokens<'_>|
+            ensures { Reads (spec.further_conj depth (spec.inner_of depth) (input_of rest.old)) result (input_of rest.new) }
+        {
+            rest.keyword(Keyword::Or)?;
+            conj(alloc, rest, depth)
+        },
+    )
 }
 
 /// A condition, where so many brackets may be opened.
@@ -196,12 +225,9 @@ fn further_conj(alloc: Global, tokens: &mut Tokens<'_>, depth: u8) -> Result<Con
 pub(crate) fn cond(alloc: Global, tokens: &mut Tokens<'_>, depth: u8) -> Result<Cond, Stop<Fault>>
     ensures { Reads (spec.cond depth (input_of tokens.old)) result (input_of tokens.new) }
 {
-    let mut conjs = List::new(alloc);
-    push_read(&mut conjs, conj(alloc, tokens, depth))?;
-    'conjs: while tokens.at_keyword(Keyword::Or) {
-        push_read(&mut conjs, further_conj(alloc, tokens, depth))?;
-    }
+    let first = conj(alloc, tokens, depth)?;
+    let (first, rest) = both(first, further_conjs(alloc, tokens, depth))?;
     Ok(Cond {
-        conjs: fitted(conjs),
+        conjs: with_first(first, rest)?,
     })
 }

@@ -5,7 +5,8 @@ ghost use Rattle.cga_parser.specs.Gained.{TakesMinus};
 ghost use Rattle.cga_parser.specs.Grammar as spec;
 ghost use Rattle.cga_parser.specs.Portions as portions;
 
-use crate::first::{both, boxed, ended, fitted, push_read};
+use crate::first::{both, boxed, ended, fitted};
+use crate::members::all_of;
 use cga_form::fault::Fault;
 use cga_form::heads::PrimaryHead;
 use cga_form::tokens::Tokens;
@@ -175,11 +176,14 @@ pub(crate) fn all_scaled(
 ) -> Result<List<Scaled>, Stop<Fault>>
     ensures { Reads (many spec.is_scaling (spec.scaled depth (spec.inside_of depth)) (input_of tokens.old)) result (input_of tokens.new) }
 {
-    let mut rest = List::new(alloc);
-    'scaled: while begins_scaled(tokens) {
-        push_read(&mut rest, scaled(alloc, tokens, depth))?;
-    }
-    Ok(rest)
+    all_of(
+        alloc,
+        tokens,
+        begins_scaled,
+        |rest: &mut Tokens<'_>|
+            ensures { Reads (spec.scaled depth (spec.inside_of depth) (input_of rest.old)) result (input_of rest.new) }
+        { scaled(alloc, rest, depth) },
+    )
 }
 
 #[cycle(expr)]
@@ -213,11 +217,14 @@ pub(crate) fn all_added(
 ) -> Result<List<Added>, Stop<Fault>>
     ensures { Reads (many spec.is_addition (spec.added depth (spec.inside_of depth)) (input_of tokens.old)) result (input_of tokens.new) }
 {
-    let mut rest = List::new(alloc);
-    'added: while begins_added(tokens) {
-        push_read(&mut rest, added(alloc, tokens, depth))?;
-    }
-    Ok(rest)
+    all_of(
+        alloc,
+        tokens,
+        begins_added,
+        |rest: &mut Tokens<'_>|
+            ensures { Reads (spec.added depth (spec.inside_of depth) (input_of rest.old)) result (input_of rest.new) }
+        { added(alloc, rest, depth) },
+    )
 }
 
 /// An expression, where so many brackets may be opened.

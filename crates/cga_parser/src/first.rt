@@ -1,7 +1,7 @@
 ghost use Rattle.std.specs.Prelude.{◌≡◌, ◌∷◌, List, IfOk};
 ghost use Rattle.cga_form.specs.Cursor.{input_of, Reads};
 ghost use Rattle.cga_form.specs.Reader.{Input, ReadResult, and_then, pure};
-ghost use Rattle.cga_parser.specs.Gained.{Gains, ReadsBoth};
+ghost use Rattle.cga_parser.specs.Gained.{ReadsBoth};
 ghost use Rattle.cga_parser.specs.Grammar as spec;
 
 use cga_form::fault::Fault;
@@ -11,7 +11,7 @@ use cga_lexer::Sign;
 use std::alloc::Global;
 
 /// The list with a member before the others, in no more room than it takes.
-fn with_first<T: Drop>(first: T, rest: List<T>) -> Result<List<T>, NoMemory>
+pub(crate) fn with_first<T: Drop>(first: T, rest: List<T>) -> Result<List<T>, NoMemory>
     ensures { IfOk result (λ all. all ≡ first ∷ rest) }
 {
     let mut all = rest.into_vec();
@@ -42,18 +42,6 @@ pub(crate) fn fitted<T>(list: List<T>) -> List<T>
     let mut all = list.into_vec();
     all.shrink_to_fit();
     List::from_vec(all)
-}
-
-/// One more member, where one was read. Takes memory.
-pub(crate) fn push_read<T: Drop>(
-    list: &mut List<T>,
-    read: Result<T, Stop<Fault>>,
-) -> Result<(), Stop<Fault>>
-    ensures { Gains read result list.old list.new }
-{
-    let member = read?;
-    list.push(member)?;
-    Ok(())
 }
 
 /// What was read, in a box. Takes memory.

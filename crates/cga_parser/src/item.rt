@@ -1,11 +1,12 @@
 ghost use Rattle.std.specs.Prelude.{◌≡◌, ◌<◌};
 ghost use Rattle.cga_form.specs.Cursor.{input_of, Reads};
 ghost use Rattle.cga_form.specs.Reader.{begins, many};
-ghost use Rattle.cga_parser.specs.Grammar as spec;
 ghost use Rattle.cga_form.specs.Tokens.{is_sign};
 ghost use Rattle.cga_lexer.specs.declared.sign.Sign.TheVariants as sign;
+ghost use Rattle.cga_parser.specs.Grammar as spec;
 
-use crate::first::{closed, ended, fitted, push_read};
+use crate::first::{both, closed, ended, with_first};
+use crate::members::all_of;
 use crate::parts;
 use crate::triples::{move_rest, resize_rest};
 use cga_form::fault::Fault;
@@ -62,18 +63,9 @@ fn braced_body(alloc: Global, tokens: &mut Tokens<'_>, depth: u8) -> Result<Body
     Ok(Body { items })
 }
 
+/// The bodies after the first.
 #[cycle(item)]
 #[tactic(auto, unfolding(crate::specs::Grammar::further_body))]
-fn further_body(alloc: Global, tokens: &mut Tokens<'_>, depth: u8) -> Result<Body, Stop<Fault>>
-    requires { 0 < depth }
-    ensures { Reads (spec.further_body depth (spec.inside_of depth) (spec.inner_item depth) (input_of tokens.old)) result (input_of tokens.new) }
-{
-    tokens.sign(Sign::Bar)?;
-    let items = inner_body(alloc, tokens, depth)?;
-    Ok(Body { items })
-}
-
-#[cycle(item)]
 fn further_bodies(
     alloc: Global,
     tokens: &mut Tokens<'_>,
@@ -82,11 +74,19 @@ fn further_bodies(
     requires { 0 < depth }
     ensures { Reads (many (is_sign sign.Bar) (spec.further_body depth (spec.inside_of depth) (spec.inner_item depth)) (input_of tokens.old)) result (input_of tokens.new) }
 {
-    let mut rest = List::new(alloc);
-    'bodies: while tokens.at_sign(Sign::Bar) {
-        push_read(&mut rest, further_body(alloc, tokens, depth))?;
-    }
-    Ok(rest)
+    all_of(
+        alloc,
+        tokens,
+        |rest| rest.at_sign(Sign::Bar),
+        |rest: &mut Tokens<'_>|
+            requires { 0 < depth }
+            ensures { Reads (spec.further_body depth (spec.inside_of depth) (spec.inner_item depth) (input_of rest.old)) result (input_of rest.new) }
+        {
+            rest.sign(Sign::Bar)?;
+            let items = inner_body(alloc, rest, depth)?;
+            Ok(Body { items })
+        },
+    )
 }
 
 #[cycle(item)]
@@ -179,16 +179,32 @@ fn item(alloc: Global, tokens: &mut Tokens<'_>, depth: u8) -> Result<Item, Stop<
     item_rest(alloc, tokens, depth, head)
 }
 
+/// The items after the first.
+#[cycle(item)]
+fn further_items(
+    alloc: Global,
+    tokens: &mut Tokens<'_>,
+    depth: u8,
+) -> Result<List<Item>, Stop<Fault>>
+    ensures { Reads (many spec.begins_item (spec.item depth) (input_of tokens.old)) result (input_of tokens.new) }
+{
+    all_of(
+        alloc,
+        tokens,
+        begins_item,
+        |rest: &mut Tokens<'_>|
+            ensures { Reads (spec.item depth (input_of rest.old)) result (input_of rest.new) }
+        { item(alloc, rest, depth) },
+    )
+}
+
 #[cycle(item)]
 fn items(alloc: Global, tokens: &mut Tokens<'_>, depth: u8) -> Result<List<Item>, Stop<Fault>>
     ensures { Reads (spec.items_by (spec.item depth) (input_of tokens.old)) result (input_of tokens.new) }
 {
-    let mut items = List::new(alloc);
-    push_read(&mut items, item(alloc, tokens, depth))?;
-    'items: while begins_item(tokens) {
-        push_read(&mut items, item(alloc, tokens, depth))?;
-    }
-    Ok(fitted(items))
+    let first = item(alloc, tokens, depth)?;
+    let (first, rest) = both(first, further_items(alloc, tokens, depth))?;
+    Ok(with_first(first, rest)?)
 }
 
 /// Items, or `NIL`, where so many brackets may be opened.

@@ -19,6 +19,7 @@ mod item;
 mod keep;
 mod laws;
 pub mod limits;
+mod members;
 mod parts;
 mod printed;
 pub mod rule;

@@ -1,15 +1,16 @@
 //! What items have in round brackets.
-ghost use Rattle.std.specs.Prelude.{◌≡◌, ◌<◌, ◌&&◌, [], nat_lt};
+ghost use Rattle.std.specs.Prelude.{◌≡◌, ◌<◌, []};
 ghost use Rattle.cga_form.specs.Cursor.{input_of, Finds, Reads};
 ghost use Rattle.cga_form.specs.Reader.{begins, many, many_from};
-ghost use Rattle.cga_parser.specs.Grammar as spec;
-ghost use Rattle.cga_syntax.specs.Limits.{most_further};
 ghost use Rattle.cga_form.specs.Tokens.{is_sign};
-ghost use Rattle.cga_form.specs.Words.{is_relative};
 ghost use Rattle.cga_lexer.specs.declared.sign.Sign.TheVariants as sign;
+ghost use Rattle.cga_syntax.specs.Limits.{most_further};
+ghost use Rattle.cga_parser.specs.Grammar as spec;
+ghost use Rattle.cga_form.specs.Words.{is_relative};
 
 use crate::expr::{inside, inside_boxed};
-use crate::first::{closed, ended, push_read};
+use crate::first::{closed, ended};
+use crate::members::{all_of, few_of};
 use cga_form::fault::Fault;
 use cga_form::heads::SelectorHead;
 use cga_form::tokens::Tokens;
@@ -95,11 +96,12 @@ fn further_sizes(
     requires { 0 < depth }
     ensures { Reads (many (is_sign sign.Comma) (spec.further_size depth (spec.inside_of depth)) (input_of tokens.old)) result (input_of tokens.new) }
 {
-    let mut rest = List::new(alloc);
-    'sizes: while tokens.at_sign(Sign::Comma) {
-        push_read(&mut rest, further_size(alloc, tokens, depth))?;
-    }
-    Ok(rest)
+    all_of(
+        alloc,
+        tokens,
+        |rest| rest.at_sign(Sign::Comma),
+        |rest| further_size(alloc, rest, depth),
+    )
 }
 
 #[tactic(auto, unfolding(crate::specs::Grammar::split_parts))]
@@ -173,23 +175,8 @@ pub(crate) fn selector_part(tokens: &mut Tokens<'_>, depth: u8) -> Result<Select
     Ok(selector)
 }
 
-#[tactic(auto, unfolding(crate::specs::Grammar::further_argument))]
-fn further_argument(alloc: Global, tokens: &mut Tokens<'_>, depth: u8) -> Result<Expr, Stop<Fault>>
-    requires { 0 < depth }
-    ensures { Reads (spec.further_argument depth (spec.inside_of depth) (input_of tokens.old)) result (input_of tokens.new) }
-{
-    tokens.sign(Sign::Comma)?;
-    inside(alloc, tokens, depth)
-}
-
-/// Whether a further one of at most four comes, where so many came after the first.
-pub(crate) fn goes_on(tokens: &Tokens<'_>, taken: usize) -> bool
-    ensures { result ≡ (nat_lt taken most_further && begins (is_sign sign.Comma) (input_of tokens.now).left) }
-{
-    taken < MOST_FURTHER && tokens.at_sign(Sign::Comma)
-}
-
 /// At most three arguments after the first.
+#[tactic(auto, unfolding(crate::specs::Grammar::further_argument))]
 fn further_arguments(
     alloc: Global,
     tokens: &mut Tokens<'_>,
@@ -198,11 +185,19 @@ fn further_arguments(
     requires { 0 < depth }
     ensures { Reads (many_from (is_sign sign.Comma) (spec.further_argument depth (spec.inside_of depth)) most_further [] (input_of tokens.old)) result (input_of tokens.new) }
 {
-    let mut rest = List::new(alloc);
-    'arguments: while goes_on(tokens, rest.len()) {
-        push_read(&mut rest, further_argument(alloc, tokens, depth))?;
-    }
-    Ok(rest)
+    few_of(
+        alloc,
+        tokens,
+        MOST_FURTHER,
+        |rest| rest.at_sign(Sign::Comma),
+        |rest: &mut Tokens<'_>|
+            requires { 0 < depth }
+            ensures { Reads (spec.further_argument depth (spec.inside_of depth) (input_of rest.old)) result (input_of rest.new) }
+        {
+            rest.sign(Sign::Comma)?;
+            inside(alloc, rest, depth)
+        },
+    )
 }
 
 #[tactic(auto, unfolding(crate::specs::Grammar::some_arguments))]

@@ -1,46 +1,44 @@
-ghost use Rattle.std.specs.Prelude.{◌≡◌, ◌≤◌, ◌∷◌, [], length, map, IfOk, List};
-ghost use Rattle.cga_form.specs.Cursor.{input_of, Finds, Reads, seen};
-ghost use Rattle.cga_form.specs.Reader.{many_from};
+ghost use Rattle.std.specs.Prelude.{◌≡◌, []};
+ghost use Rattle.cga_form.specs.Cursor.{input_of, Finds, Reads};
+ghost use Rattle.cga_form.specs.Reader.{many, many_from};
+ghost use Rattle.cga_form.specs.Tokens.{is_sign};
+ghost use Rattle.cga_lexer.specs.declared.sign.Sign.TheVariants as sign;
+ghost use Rattle.cga_syntax.specs.Limits.{most_further};
 ghost use Rattle.cga_parser.specs.Grammar as spec;
 ghost use Rattle.cga_parser.specs.Portions as portions;
-ghost use Rattle.cga_syntax.specs.Limits.{most_further};
-ghost use Rattle.cga_form.specs.Tells.{Tells};
-ghost use Rattle.cga_form.specs.Tokens.{is_sign};
-ghost use Rattle.cga_syntax.specs.Pieces.{rule_pieces};
-ghost use Rattle.cga_lexer.specs.declared.sign.Sign.TheVariants as sign;
 
 use crate::cond::cond;
-use crate::first::{both, closed, fitted, push_read, shared, shared_box};
+use crate::first::{both, closed, shared, shared_box, with_first};
 use crate::item::body;
-use crate::parts::goes_on;
+use crate::members::{all_of, few_of};
 use cga_form::fault::Fault;
 use cga_form::numbers;
 use cga_form::parts::{finish, id, name};
 use cga_form::tokens::Tokens;
 use cga_fraction::{Fraction, List, NoMemory, SharedBox, Stop};
 use cga_lexer::{Sign, Token};
+use cga_syntax::limits::MOST_FURTHER;
 use cga_syntax::{Alternative, Cond, Rule};
 use cga_word::Name;
 use std::alloc::Global;
 
-#[tactic(auto, unfolding(crate::specs::Grammar::further_name))]
-fn further_name(tokens: &mut Tokens<'_>) -> Result<Name, Fault>
-    ensures { Finds (spec.further_name (input_of tokens.old)) result (input_of tokens.new) }
-{
-    tokens.sign(Sign::Comma)?;
-    name(tokens)
-}
-
 /// At most three names after the first.
+#[tactic(auto, unfolding(crate::specs::Grammar::further_name))]
 fn further_names(alloc: Global, tokens: &mut Tokens<'_>) -> Result<List<Name>, Stop<Fault>>
     ensures { Reads (many_from (is_sign sign.Comma) spec.further_name most_further [] (input_of tokens.old)) result (input_of tokens.new) }
 {
-    let mut rest = List::new(alloc);
-    'names: while goes_on(tokens, rest.len()) {
-        let more = further_name(tokens)?;
-        rest.push(more)?;
-    }
-    Ok(rest)
+    few_of(
+        alloc,
+        tokens,
+        MOST_FURTHER,
+        |rest| rest.at_sign(Sign::Comma),
+        |rest: &mut Tokens<'_>|
+            ensures { Reads (spec.further_name (input_of rest.old)) result (input_of rest.new) }
+        {
+            rest.sign(Sign::Comma)?;
+            Ok(name(rest)?)
+        },
+    )
 }
 
 #[tactic(auto, unfolding(crate::specs::Grammar::some_parameters))]
@@ -114,6 +112,21 @@ fn alternative(
     Ok(Alternative { items, prob })
 }
 
+fn further_alternatives(
+    alloc: Global,
+    tokens: &mut Tokens<'_>,
+    depth: u8,
+) -> Result<List<Alternative>, Stop<Fault>>
+    ensures { Reads (many (is_sign sign.Arrow) (spec.alternative depth) (input_of tokens.old)) result (input_of tokens.new) }
+{
+    all_of(
+        alloc,
+        tokens,
+        |rest| rest.at_sign(Sign::Arrow),
+        |rest| alternative(alloc, rest, depth),
+    )
+}
+
 /// One or more alternatives.
 fn alternatives(
     alloc: Global,
@@ -122,12 +135,9 @@ fn alternatives(
 ) -> Result<List<Alternative>, Stop<Fault>>
     ensures { Reads (portions.alternatives depth (input_of tokens.old)) result (input_of tokens.new) }
 {
-    let mut all = List::new(alloc);
-    push_read(&mut all, alternative(alloc, tokens, depth))?;
-    'alternatives: while tokens.at_sign(Sign::Arrow) {
-        push_read(&mut all, alternative(alloc, tokens, depth))?;
-    }
-    Ok(fitted(all))
+    let first = alternative(alloc, tokens, depth)?;
+    let (first, rest) = both(first, further_alternatives(alloc, tokens, depth))?;
+    Ok(with_first(first, rest)?)
 }
 
 /// A rule, where so many brackets may be opened.

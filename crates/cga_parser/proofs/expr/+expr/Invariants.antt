@@ -1,7 +1,4 @@
-use Rattle.std.proofs.Common.{◌≡◌, ◌+◌, ◌*◌, length}
-use Rattle.cga_form.specs.Cursor.{input_of}
-use Rattle.cga_parser.specs.Grammar.{inside_of, is_scaling, is_addition, scaled, added}
-use Rattle.cga_form.specs.Reader.{many_after, many}
+use Rattle.std.proofs.Common.{◌+◌, ◌*◌}
 use Rattle.cga_parser.proofs.expr.+expr.Given as goal
 
 abbrev pub decreases-inside : goal.decreases-inside
@@ -23,10 +20,13 @@ abbrev pub decreases-primary : goal.decreases-primary
 decreases-primary l = 14 * l.depth + 4
 
 abbrev pub decreases-factor : goal.decreases-factor
-decreases-factor l = 14 * l.depth + 6
+decreases-factor l = 14 * l.depth + 5
 
 abbrev pub decreases-scaled : goal.decreases-scaled
-decreases-scaled l = 14 * l.depth + 7
+decreases-scaled l = 14 * l.depth + 6
+
+abbrev pub decreases-all_scaled-all_of : goal.decreases-all_scaled-all_of
+decreases-all_scaled-all_of l = 14 * l.depth + 7
 
 abbrev pub decreases-all_scaled : goal.decreases-all_scaled
 decreases-all_scaled l = 14 * l.depth + 8
@@ -37,20 +37,11 @@ decreases-term l = 14 * l.depth + 9
 abbrev pub decreases-added : goal.decreases-added
 decreases-added l = 14 * l.depth + 10
 
+abbrev pub decreases-all_added-all_of : goal.decreases-all_added-all_of
+decreases-all_added-all_of l = 14 * l.depth + 11
+
 abbrev pub decreases-all_added : goal.decreases-all_added
-decreases-all_added l = 14 * l.depth + 11
+decreases-all_added l = 14 * l.depth + 12
 
 abbrev pub decreases-expr : goal.decreases-expr
-decreases-expr l = 14 * l.depth + 12
-
-abbrev pub invariant-all_scaled-scaled : goal.invariant-all_scaled-scaled
-invariant-all_scaled-scaled l = many is_scaling (scaled l.depth (inside_of l.depth)) (input_of l.initial.tokens) ≡ many_after is_scaling (scaled l.depth (inside_of l.depth)) l.rest (input_of l.tokens)
-
-abbrev pub decreases-all_scaled-scaled : goal.decreases-all_scaled-scaled
-decreases-all_scaled-scaled l = length (input_of l.tokens).left
-
-abbrev pub invariant-all_added-added : goal.invariant-all_added-added
-invariant-all_added-added l = many is_addition (added l.depth (inside_of l.depth)) (input_of l.initial.tokens) ≡ many_after is_addition (added l.depth (inside_of l.depth)) l.rest (input_of l.tokens)
-
-abbrev pub decreases-all_added-added : goal.decreases-all_added-added
-decreases-all_added-added l = length (input_of l.tokens).left
+decreases-expr l = 14 * l.depth + 13
