@@ -1,9 +1,10 @@
 """Whether the jobs of a region are, together, the region: where a rule asks, no boxes of two jobs may touch."""
 from collections import Counter, defaultdict
+from itertools import accumulate
 from math import gcd
 from typing import Any, Dict, Iterator, List, Sequence, Tuple
 
-from .apart import Sets, touching_alike
+from .apart import Sets, around, touching_alike
 from .call import Refused
 
 Box = Tuple[int, ...]
@@ -41,11 +42,6 @@ def over_all(told: Sequence[Any]) -> Iterator[List[Box]]:
         yield job.boxes if by == 1 else [tuple(number * by for number in box) for box in job.boxes]
 
 
-def around(boxes: Sequence[Box]) -> Box:
-    """The least box that holds these."""
-    return tuple((min, max)[at % 2](column) for at, column in enumerate(zip(*boxes)))
-
-
 def within(boxes: Sequence[Box], area: Box) -> List[int]:
     """The places of the boxes that touch an area."""
     x, x_end, z, z_end, y, y_end = area
@@ -69,15 +65,33 @@ def across_jobs(jobs: Sequence[List[Box]], angles: Sequence[float]) -> Iterator[
             yield lots[one], lots[other]
 
 
-def touching_districts(plan: Any, told: Sequence[Any]) -> List[Tuple[int, int]]:
+class Names:
+    """The own lots of jobs, by the number of their job and their places there."""
+
+    def __init__(self, plan: Any, jobs: Sequence[Any]) -> None:
+        self.plan, self.jobs = plan, jobs
+        self.before = [0, *accumulate(job.own for job in jobs)]
+        self.known: Dict[int, List[str]] = {}
+
+    def number(self, place: Place) -> int:
+        return self.before[place[0]] + place[1]
+
+    def of(self, place: Place) -> str:
+        job, at = place
+        if job not in self.known:
+            self.known[job] = self.plan.own(self.jobs[job])
+        return self.known[job][at]
+
+
+def touching_districts(plan: Any, jobs: Sequence[Any], told: Sequence[Any]) -> List[Tuple[str, str]]:
     """Pairs of lots of two jobs that are to stand in one, as few as join all that touch."""
-    jobs = plan.drawn()
     if any(len(job.boxes) == 0 for job in told):
         raise Refused(
             f"rule {', '.join(plan.asks())} asks by Scope.occ, and the program of the jobs tells no boxes: cut the script again "
             "with the program cga_hulls"
         )
-    sets = Sets(len(plan.lots))
-    found = across_jobs(list(over_all(told)), [job.angle for job in jobs])
-    pairs = ((jobs[one].own[at], jobs[other].own[place]) for (one, at), (other, place) in found)
-    return [pair for pair in pairs if sets.join(*pair)]
+    sets, names = Sets(sum(job.own for job in jobs)), Names(plan, jobs)
+    found = sorted(across_jobs(list(over_all(told)), [job.angle for job in jobs]))
+    return [
+        (names.of(one), names.of(other)) for one, other in found if sets.join(names.number(one), names.number(other))
+    ]

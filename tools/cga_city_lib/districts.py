@@ -5,18 +5,20 @@ import sys
 from pathlib import Path
 
 from .call import FirstWord, Refused, number_in
+from .changed_cut import Wanted, changed_cut
 from .checking import bill_text
+from .compared import Compared
+from .cut_index import FILE as INDEX
 from .exact import parted
 from .files import alone, can_write, write
 from .head import head_of
 from .jobs import Cut, Program, cut_again, leftovers, tiles_to_make, todo
 from .map_facts import MapFacts
 from .of_plan import line_of, of_others, take_others_away
-from .plan import Options, read_plan
+from .plan import Options, digest, read_plan
 from .program import MOST_LOTS, is_proved, ready
 from .quadtree import EDGE
 from .region import Region
-from .rounds import outcome
 from .over_angles import sentence, unseen_pairs, unseen_text
 from .strangers_text import told
 from .survey import Survey
@@ -33,24 +35,47 @@ def chosen_program(named, asks=()):
 
 
 def cut(words):
+    facts = MapFacts(words.ground)
+    plan, number = cut_by_changes(words, facts) or cut_whole(words, facts)
+    left = len(todo(words.folder, plan))
+    print(
+        f"{words.folder}: {len(plan.deal)} lots in {len(plan.drawn())} jobs{at_angles(plan)}, {left} to run; "
+        f"{kind(plan.asks(), number)}"
+    )
+
+
+def cut_by_changes(words, facts):
+    """The plan and the number of districts, where a former cut lies there and only lots changed; else None."""
+    if not (words.folder / INDEX).exists():
+        return None
+    scripts = [Path(path).read_bytes() for path in [words.script, *(path for path, _ in words.coarser)]]
+    with alone(words.folder):
+        try:
+            plan = read_plan(words.folder)
+            program = Program(chosen_program(words.program, plan.asks()), words.decimals)
+        except Refused:
+            return None  # a cut from nothing says why, or mends it
+        return changed_cut(words.folder, plan, Wanted(scripts, program, options_of(words, plan.asks()), facts))
+
+
+def options_of(words, asks):
+    return Options(
+        words.lots, words.reach, words.rings if asks else 0, words.decimals, [error for _, error in words.coarser]
+    )
+
+
+def cut_whole(words, facts):
     region = Region(words.script)
     coarse = [Region(path, has_lots=False) for path, _ in words.coarser]
     heads = [head_of(head, chosen_program(words.program)) for head in [region, *coarse]]
     asks = heads[0].asks()
     refuse(region, words, heads)
-    options = Options(
-        words.lots, words.reach, words.rings if asks else 0, words.decimals, [error for _, error in words.coarser]
-    )
     program = Program(chosen_program(words.program, asks), words.decimals)
-    facts = MapFacts(words.ground)
-    facts.demand(words.ground, list(region.names))
+    facts.demand(words.ground, region.names)
     words.folder.mkdir(parents=True, exist_ok=True)
     with alone(words.folder):
-        plan, number = Cut(words.folder, program, region, heads, options, facts).make()
-        left = len(todo(words.folder, plan))
-    print(
-        f"{words.folder}: {len(plan.lots)} lots in {len(plan.drawn())} jobs{at_angles(plan)}, {left} to run; {kind(asks, number)}"
-    )
+        coarser = [digest(head.data) for head in coarse]
+        return Cut(words.folder, program, region, heads, options_of(words, asks), facts, coarser).make()
 
 
 def at_angles(plan):
@@ -89,18 +114,20 @@ def checked(folder, to, is_whole=False):
     """Checks the jobs of a folder, and writes what they count to another one, or the same."""
     plan = read_plan(folder)
     begin_check(to, plan)
-    survey = Survey(folder, plan, plan.drawn(), is_whole)
-    survey.demand()
-    found, counts, bill = outcome(folder, plan, [survey.told[job.name] for job in plan.drawn()])
+    compared = Compared(folder, plan, is_whole)
+    found = compared.outcome()
     if found:
         left = len(todo(folder, cut_again(folder, plan)))
         print(f"{found}: {left} jobs to run; run them, and check again", file=sys.stderr)
         return AGAIN
+    counts, bill = compared.sums()
     text = " ".join(f"{word} {number}" for word, number in counts.items())
     if can_write(to):
         tell(to, {"town.bill": bill_text(bill)} if "bill" in plan.asked else {}, text, line_of(plan.digest()))
     if plan.asks() and plan.is_turned():
-        tell_unseen(to, plan, [survey.told[job.name] for job in plan.drawn()])
+        tell_unseen(to, plan, [compared.told[job.name] for job in plan.drawn()])
+    if can_write(folder):
+        compared.keep()
     print(f"{folder}: {text}")
     return 0
 

@@ -7,14 +7,24 @@ from contextlib import contextmanager
 
 from .call import Refused
 
+PIECE = 1 << 20  # bytes that are compared at once
+
 
 def write(path, data):
     """Gives the file these bytes, unless it has them; who reads the old ones reads on in these."""
-    if path.is_file() and path.read_bytes() == data:
+    if path.is_file() and has(path, data):
         return False
     with written(path) as file:
         file.write(data)
     return True
+
+
+def has(path, data):
+    """Whether a file's bytes are these; few are held at once."""
+    with open(path, "rb") as file:
+        if os.fstat(file.fileno()).st_size != len(data):
+            return False
+        return all(file.read(PIECE) == data[at : at + PIECE] for at in range(0, len(data), PIECE))
 
 
 @contextmanager

@@ -31,19 +31,25 @@ class Findings:
         write(self.path, json.dumps([self.together, self.seen, self.rings], separators=(",", ":")).encode())
 
 
+def key_of(line, angle):
+    """What a finding says of a lot: its name and its ground."""
+    _, name, _, *ground = line.split(" ")[:7]
+    return f"{name} {' '.join(ground)}{f' turned {angle:g}' if angle else ''}"
+
+
 class Lots:
     """The lots of a script as findings name them."""
 
     def __init__(self, region):
-        self.keys = [
-            f"{name} {' '.join(ground)}{f' turned {angle:g}' if angle else ''}"
-            for name, ground, angle in zip(region.names, zip(*region.columns), region.angles)
-        ]
+        self.region = region
         self.places = {}
+
+    def key(self, at):
+        return key_of(self.region.lots[at], self.region.angles[at])
 
     def place(self, key):
         if not self.places:
-            self.places = {key: at for at, key in enumerate(self.keys)}
+            self.places = {self.key(at): at for at in range(len(self.region.lots))}
         return self.places.get(key)
 
     def pairs(self, found):
@@ -57,5 +63,11 @@ class Lots:
         places.pop(None, None)
         return places
 
+    def keys(self, names):
+        """What findings say of some lots, by their names."""
+        return {name: self.key(at) for at, name in enumerate(self.region.names) if name in names}
+
     def named(self, pairs):
-        return [[self.keys[one], self.keys[other]] for one, other in pairs]
+        """Pairs of lots, given by their names."""
+        keys = self.keys({name for pair in pairs for name in pair})
+        return [[keys[one], keys[other]] for one, other in pairs]

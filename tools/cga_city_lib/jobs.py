@@ -1,16 +1,19 @@
 """The folder of a region that is cut. Each file of a job is named by the digest of its script and of the program that
 runs it: what another script or another program printed has another name, and what was run once isn't run again."""
 import os
+from array import array
 from pathlib import Path
 
+from . import cut_index
 from .call import Refused
-from .deal import coarser, singly, whole_districts, with_rings
+from .deal import bounds_of, coarser, singly, whole_districts, with_rings
 from .engines import engines
 from .files import write
+from .findings import FILE as FOUND
 from .findings import Findings, Lots
 from .of_plan import take_others_away
 from .map_facts import kept_facts, unused
-from .plan import Job, Plan
+from .plan import Job, Plan, digest, of_job
 from .printed import PROGRAM
 from .progress import counted
 from .region import Region
@@ -33,23 +36,16 @@ class Program:
         self.data, self.words = Path(found).read_bytes(), words
         if words and not takes_decimals(found, words):
             raise Refused(f"{path} doesn't print with {' '.join(words)}: name a program that does by --program")
-        self.name = PROGRAM + digest(self.data)
+        self.name = PROGRAM + digest(self.data)[:20]
 
     def job(self, script):
         """The name of a job."""
-        begin = "\0".join([self.name, *self.words, ""]).encode("latin-1")
-        return digest(begin + script)
+        return of_job(self.name, self.words, script)
 
     def save(self, folder):
         path = folder / self.name
         if write(path, self.data):
             path.chmod(0o755)
-
-
-def digest(data):
-    from hashlib import sha256  # it takes long to load, too
-
-    return sha256(data).hexdigest()[:20]
 
 
 def takes_decimals(program, words):
@@ -71,48 +67,57 @@ def asked(region, has_rings):
 class Cut:
     """A region with all that its jobs come from."""
 
-    def __init__(self, folder, program, region, heads, options, facts):
+    def __init__(self, folder, program, region, heads, options, facts, coarser):
+        self.coarser = coarser  # the digests of the coarser heads' scripts
         self.folder, self.program, self.region, self.heads, self.options = folder, program, region, heads, options
-        self.facts, self.names = facts, list(region.names)
+        self.facts = facts
         self.asks = heads[0].asks()
 
     def shares(self):
         """How many districts there are, where that is asked, and the shares of the jobs."""
         region, options = self.region, self.options
         if not self.asks:
-            return None, list(singly(region, options))
+            return None, singly(region, options)
         lots, findings = Lots(region), Findings(self.folder)
         together = lots.pairs(findings.together)
         if options.rings:
-            return None, list(
-                with_rings(region, options, together, lots.pairs(findings.seen), lots.numbers(findings.rings))
-            )
-        number, shares = whole_districts(region, options, together)
-        return number, list(shares)
+            return None, with_rings(region, options, together, lots.pairs(findings.seen), lots.numbers(findings.rings))
+        return whole_districts(region, options, together)
 
-    def levels(self, shares, listed):
+    def levels(self, shares, listed, deal):
         """The jobs of the town, and of each coarser head in larger squares."""
-        yield from self.jobs(shares, listed, 0)
+        kept = []
+        for share in shares:
+            for at in share.own:
+                deal[at] = len(kept)
+            kept.append(share._replace(own=array("I", share.own) if len(self.heads) > 1 else (), ring=()))
+            yield self.job(share, listed, 0)
         for level in range(1, len(self.heads)):
-            shares = list(coarser(shares, self.options.most * 4**level))
-            yield from self.jobs(shares, ALWAYS, level)
+            sizes = [len(share.own) for share in kept]
+            kept = [
+                share._replace(own=array("I", sorted(at for part in share.parts for at in kept[part].own)))
+                for share in coarser(kept, sizes, self.options.most * 4**level)
+            ]
+            yield from (self.job(share, ALWAYS, level) for share in kept)
 
-    def jobs(self, shares, listed, level):
-        for share in counted(shares, "jobs written"):
-            lots = [self.region.lots[at] for at in share.own + share.ring]
-            script = self.heads[level].script(lots, listed)
-            name = self.program.job(script)
-            write(self.folder / "jobs" / f"{name}.cga", script)
-            facts = self.facts.write_for(self.folder, [self.names[at] for at in share.own])
-            yield Job(name, share.own, share.ring, share.square, level, share.angle, share.corner, facts)
+    def job(self, share, listed, level):
+        lines = [self.region.lots[at] for at in [*share.own, *share.ring]]
+        script = self.heads[level].script(lines, listed)
+        name, ring = self.program.job(script), share.ring
+        write(self.folder / "jobs" / f"{name}.cga", script)
+        facts = self.facts.write_for(self.folder, [line.split(" ", 2)[1] for line in lines[: len(share.own)]])
+        bounds = bounds_of(self.region, [*share.own, *ring]) if ring else share.bounds
+        size = len(share.own), len(ring), share.square, level, share.angle, share.corner, bounds, facts, share.parts
+        return Job(name, *size)
 
     def make(self):
         """Gives the plan and the number of districts. Files that are as they are to be are left alone."""
         (self.folder / "jobs").mkdir(parents=True, exist_ok=True)
         number, shares = self.shares()
         listed = asked(self.region, bool(self.asks and self.options.rings))
-        jobs = list(self.levels(shares, listed))
-        plan = Plan(self.options, self.program.name, self.heads, listed, self.names, jobs, self.facts.name)
+        deal = array("I", bytes(4 * len(self.region.lots)))
+        jobs = list(counted(self.levels(shares, listed, deal), "jobs written", 0))
+        plan = Plan(self.folder, self.options, self.program.name, self.heads, listed, jobs, self.facts.name, deal)
         self.program.save(self.folder)
         self.facts.save(self.folder)
         write(self.folder / SCRIPT, self.region.data)
@@ -120,19 +125,33 @@ class Cut:
             write(self.folder / name, os.fsencode(text))
         plan.save(self.folder)
         take_others_away(self.folder, plan.digest())
+        self.save_index(number if self.asks else None)
         return plan, number
+
+    def save_index(self, districts):
+        data = self.region.data
+        cut_index.save(
+            self.folder,
+            script=digest(data),
+            coarser=self.coarser,
+            found=digest(cut_index.bytes_in(self.folder / FOUND)),
+            first=cut_index.first_lot(data, self.region.table),
+            districts=districts,
+        )
 
 
 def cut_again(folder, plan):
     """Cuts what was cut, by what is found by now."""
     program = Program(str(folder.absolute() / plan.program), plan.options.words)
-    return Cut(folder, program, Region(folder / SCRIPT), plan.heads, plan.options, kept_facts(folder)).make()[0]
+    region, coarser = Region(folder / SCRIPT), cut_index.kept_coarser(folder)
+    return Cut(folder, program, region, plan.heads, plan.options, kept_facts(folder), coarser).make()[0]
 
 
 def todo(folder, plan):
     """The names of the jobs that weren't run."""
     names = dict.fromkeys(job.name for job in plan.jobs)
-    return [name for name in names if not (folder / "jobs" / f"{name}.out").exists()]
+    run = set(os.listdir(folder / "jobs"))
+    return [name for name in names if f"{name}.out" not in run]
 
 
 def tiles_to_make(folder, plan):

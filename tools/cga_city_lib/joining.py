@@ -5,7 +5,7 @@ import sys
 from collections import deque, namedtuple
 from contextlib import contextmanager
 from functools import partial
-from itertools import groupby
+from itertools import accumulate, groupby
 
 from .call import Refused
 from .files import naming, write, written
@@ -68,16 +68,14 @@ def indexed(given):
 def spans(folder, plan, pool, text):
     """The lots in the script's order."""
     jobs = plan.drawn()
-    given = [(folder / "jobs" / f"{job.name}.out", [plan.lots[at] for at in job.own], text) for job in jobs]
-    found = {}
+    given = [(folder / "jobs" / f"{job.name}.out", plan.own(job), text) for job in jobs]
+    found = []
     for job, (path, *_), places in zip(jobs, given, pool(indexed, given)):
-        before = 0
-        for at, place in zip(job.own, places):
-            found[at] = path, place, before, job.angle
-            before += place.vertices
+        ends = [0, *accumulate(place.vertices for place in places)]
+        found.append(iter([(path, place, here, job.angle) for place, here in zip(places, ends)]))
     before = 0
-    for at in range(len(plan.lots)):
-        path, place, here, angle = found[at]
+    for number in plan.deal:
+        path, place, here, angle = next(found[number])
         yield Span(path, place.begin, place.end, before - here, angle)
         before += place.vertices
 
@@ -129,7 +127,7 @@ def faults(folder, plan):
     for job in plan.drawn():
         for line in Printed(folder, plan, job).faults():
             listed.setdefault(line.split()[2], []).append(line + "\n")
-    lines = [line for name in plan.lots for line in listed.get(name, [])]
+    lines = [line for name in (plan.names() if listed else ()) for line in listed.get(name, [])]
     return f"# faults {len(lines)}\n" + "".join(lines)
 
 

@@ -6,9 +6,9 @@ from .script import LONGEST, words_of
 
 VALUE = r"(-?\d+(?:\.\d+|/\d+)?)"
 TURNED = r"(?: turned (\d{1,3}(?:\.\d{1,9})?))?"  # of a region alone: the program refuses such a line
-USUAL = re.compile(
-    rf"lot ([A-Za-z_]\w*) (\d+(?:\.0+)?) {VALUE} {VALUE} {VALUE} {VALUE} ([A-Za-z_]\w*){TURNED}", re.ASCII
-)
+LOT = rf"lot ([A-Za-z_]\w*) (\d+(?:\.0+)?) {VALUE} {VALUE} {VALUE} {VALUE} ([A-Za-z_]\w*){TURNED}"
+USUAL = re.compile(LOT, re.ASCII)
+LINES = re.compile(rf"^{LOT}\r?$".encode(), re.MULTILINE)  # each such line of a text
 
 
 def usual(line: str) -> Optional[Match[str]]:

@@ -37,11 +37,13 @@ class Pair(NamedTuple):
 
 def boxes_in_town(plan: Any, told: Sequence[Any]) -> Iterator[Tuple[int, Turned]]:
     """The boxes of all lots by their places, of each by its own job."""
-    for job, some in zip(plan.drawn(), told):
-        for at, box in zip(job.own, some.boxes):
+    jobs = plan.drawn()
+    places = plan.places(range(len(jobs)))
+    for number, (job, some) in enumerate(zip(jobs, told)):
+        for at, name, box in zip(places[number], plan.own(job), some.boxes):
             x, far_x, z, far_z, low, high = (number / some.one for number in box)
             ring = [turned(place, -job.angle) for place in ((x, z), (far_x, z), (far_x, far_z), (x, far_z))]
-            yield at, Turned(plan.lots[at], job.angle, ring, low, high)
+            yield at, Turned(name, job.angle, ring, low, high)
 
 
 def unseen_pairs(plan: Any, told: Sequence[Any]) -> List[Pair]:

@@ -81,9 +81,9 @@ class Printed:
 
     def faults(self):
         """The lines of faults of the job's own lots."""
-        own = {self.plan.lots[at] for at in self.job.own}
         with self.path.open("rb") as file, reading(self.path):
             lines = self.head(self.before_town(file))[1][1:]
+            own = set(self.plan.own(self.job)) if lines else ()
             return [line for line in lines if line.split()[2] in own]
 
     def before_town(self, file):
@@ -111,7 +111,7 @@ class Printed:
     def why(self, cause):
         """What to do about a refusal."""
         if cause in ("OverBudget", "TooManyLots"):
-            return f"refused {cause}: the job of the lot `{self.plan.lots[self.job.own[0]]}` is {PAST}"
+            return f"refused {cause}: the job of the lot `{self.plan.lots_of(self.job)[0]}` is {PAST}"
         line = re.search(r" at (\d+)", cause)
         at = int(line.group(1)) - 1 - len(self.rules.city) if line else -1
         lots = self.plan.lots_of(self.job)
@@ -135,7 +135,7 @@ class Printed:
         *lines, end = self.from_last(b"\n# stats ").decode("latin-1").split("\n")
         if end or not lines or not self.is_end(lines.pop().split(" ")) or not lines:
             raise self.broken("its end isn't that of this job")
-        if town_counts(lines[0]).get("lots") != len(self.job.own) + len(self.job.ring):
+        if town_counts(lines[0]).get("lots") != self.job.own + self.job.ring:
             raise self.broken("it has other lots")
         return lines
 

@@ -2,8 +2,8 @@
 import json
 import struct
 
+from .apart import around
 from .call import Refused
-from .checking import around
 from .exact import parted
 from .files import write
 from .joining import workers
@@ -62,7 +62,7 @@ def drawn_box(folder, job):
 
 
 def tile_of(folder, plan, job, told):
-    boxes = told.boxes[: len(job.own)]
+    boxes = told.boxes[: job.own]
     box = corners(around(boxes), told.one) if boxes else drawn_box(folder, job)
     units, one = parted(plan.options.errors[job.level - 1]) if job.level else (0, 1)
     x, z = job.corner
@@ -84,14 +84,13 @@ def grouped(squares):
 
 def levels(folder, plan, told):
     """The tiles of the coarsest level, each with those that it stands for below it."""
-    tiles, below = [], {}
+    tiles = []
     for level in range(len(plan.heads)):
         jobs = [job for job in plan.jobs if job.level == level]
-        tiles = [tile_of(folder, plan, job, told[job.name]) for job in jobs]
+        below, tiles = tiles, [tile_of(folder, plan, job, told[job.name]) for job in jobs]
         for tile, job in zip(tiles, jobs):
-            for child in dict.fromkeys(below[at] for at in job.own) if below else ():
-                tile.take(child)
-        below = {at: tile for tile, job in zip(tiles, jobs) for at in job.own}
+            for number in job.parts:
+                tile.take(below[number])
     return tiles
 
 

@@ -25,6 +25,7 @@ CUT, CHECKS, RINGS, DAMAGE, KEPT = (
     "test_districts_damage.Damage.test_",
     "test_region.Agreement.test_",
 )
+CHANGES = "test_districts_changes.Changes.test_"
 
 # its name, the file, what stands there, what is planted, and the test
 BUGS = [
@@ -65,8 +66,8 @@ BUGS = [
     ),
     (
         "names without the program",
-        "jobs.py",
-        'begin = "\\0".join([self.name, *self.words, ""])',
+        "plan.py",
+        'begin = "\\0".join([program, *words, ""])',
         'begin = ""',
         CUT + "another_program_or_other_decimals_are_other_jobs",
     ),
@@ -143,7 +144,7 @@ BUGS = [
     (
         "neighbours aren't compared",
         "halo.py",
-        "if digests[own + at] != self.digest[lot]",
+        "if digests[own + at] != self.digest[ring[at]]",
         "if False",
         RINGS + "a_row_in_which_each_depends_on_the_one_before_is_put_together",
     ),
@@ -195,6 +196,62 @@ BUGS = [
         "            for name in was.own & was.told.keys():\n",
         "            for name in ():\n",
         KEPT + "an_edit_that_is_taken_back_leaves_no_trace",
+    ),
+    (
+        "a lot that comes into a square is dealt by itself",
+        "changed_deal.py",
+        "        if held:\n",
+        "        if False:\n",
+        CHANGES + "where_no_rule_asks",
+    ),
+    (
+        "squares that become one stay",
+        "changed_deal.py",
+        "        if mixed:\n",
+        "        if False:\n",
+        CHANGES + "where_no_rule_asks",
+    ),
+    (
+        "a lot that comes touches no other",
+        "changed_deal.py",
+        "self.expand(set().union(*(self.lots.near(lot, self.options.reach) for lot in self.lots.come)))",
+        "pass",
+        CHANGES + "where_a_rule_asks",
+    ),
+    (
+        "rings near a change stay",
+        "changed_deal.py",
+        "if job.share or job.number in concerned else job",
+        "if job.share else job",
+        CHANGES + "with_rings",
+    ),
+    (
+        "a damaged index is believed",
+        "sealed.py",
+        "if known == digest(data).encode()",
+        "if True",
+        CHANGES + "an_output_that_changed_is_read_again_and_a_damaged_record_is_not_believed",
+    ),
+    (
+        "the script may be another than that of the index",
+        "cut_index.py",
+        "return index if index == now",
+        "return index if True",
+        CHANGES + "what_is_damaged_is_not_believed",
+    ),
+    (
+        "an output that changed isn't read",
+        "kept_checks.py",
+        "(record.own, now) == (job.own, (record.size, record.time, record.end))",
+        "True",
+        CHANGES + "an_output_that_changed_is_read_again_and_a_damaged_record_is_not_believed",
+    ),
+    (
+        "what changed touches no other job",
+        "kept_checks.py",
+        "angle == other and touch(",
+        "False and touch(",
+        CHANGES + "a_check_reads_what_changed_and_what_that_may_touch",
     ),
 ]
 

@@ -1,10 +1,11 @@
 """Regions of lots at several angles: jobs by angle and place, turned back where they are joined. Positions are by hand."""
-import json
 import unittest
 
 from in_process import called  # first, since it names where the others are
 from defined import by_definition
 from regions import RULES, STAND_IN, RegionTest, asking
+
+from cga_city_lib.plan import read_plan
 from tiles_reader import read_tileset
 
 
@@ -65,10 +66,10 @@ class Angles(RegionTest):
         lots = [f"lot {'ab'[k // 20]}{k % 20} 1 {k // 20 * 9000 + 3 * k} 0 1 1 wall" for k in range(40)]
         lots = [lot + " turned 45" * (k % 2) for k, lot in enumerate(lots)]
         self.cut([*RULES, *lots], 20)
-        plan = json.loads((self.folder / "plan.json").read_bytes())
-        names = [{plan["lots"][at][0] for at in own} for _, own, *_ in plan["jobs"]]
+        plan = read_plan(self.folder)
+        names = [{name[0] for name in plan.own(job)} for job in plan.jobs]
         self.assertEqual(sorted(map(sorted, names)), [["a"], ["a"], ["b"], ["b"]])
-        self.assertEqual(sorted(angle for *_, angle, _, _ in plan["jobs"]), [0, 0, 45, 45])
+        self.assertEqual(sorted(job.angle for job in plan.jobs), [0, 0, 45, 45])
 
     def test_no_question_sees_over_angles_and_it_is_told(self):
         # the box of a is its ground, longer by its seed: 0 to 5 by 0 to 4; that of b comes to -4 to 0 by -2 to 3

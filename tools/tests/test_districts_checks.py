@@ -5,6 +5,8 @@ import unittest
 
 from regions import RULES, STAND_IN, RegionTest, asking, chances, ended
 
+from cga_city_lib.plan import digest
+
 LOTS = [
     f"lot {name} {seed} {10 * x} 0 4 4 wall"
     for x, (name, seed) in enumerate([("a", 1), ("flat", 2), ("c", 0), ("d", 3)])
@@ -286,10 +288,12 @@ class Checks(RegionTest):
     def test_a_plan_that_is_no_plan(self):
         self.cut(REGION)
         plan = (self.folder / "plan.json").read_text()
-        once = plan.replace('"lots":["a",', '"lots":["a","twice",')
-        self.assertNotEqual(once, plan)
-        for text in ("", "{}", '{"form": 9}', "[]", once):
+        lots = (self.folder / "plan.lots").read_bytes()
+        other = lots[4:] + lots[-4:]  # one job has a lot too much
+        plans = *((text, lots) for text in ("", "{}", '{"form": 9}', "[]")), (plan, other), (plan, b"")
+        for text, deal in [*plans, (plan.replace(digest(lots), digest(other)), other)]:
             (self.folder / "plan.json").write_text(text)
+            (self.folder / "plan.lots").write_bytes(deal)
             self.assert_refused(
                 self.call("check", self.folder), "plan.json wasn't written by this tool: cut the script again"
             )

@@ -1,10 +1,11 @@
 """Districts that are cut, derived by the definitions of the language: what each lot asks is asked by its rules. Rules and lots
 stand in a block, which is derived once, and not at each lot."""
-import json
 import unittest
 from pathlib import Path
 
 from regions import DEFINED, RegionTest
+
+from cga_city_lib.plan import read_plan
 
 EXAMPLES = Path(__file__).resolve().parent / "districts"
 
@@ -32,7 +33,7 @@ class Defined(RegionTest):
         number, answer = self.rounds(30, DEFINED)
         self.assertEqual(answer[0], 0, answer)
         self.assert_whole(lines, DEFINED)
-        return number, sorted(len(job[1]) for job in json.loads((self.folder / "plan.json").read_text())["jobs"])
+        return number, sorted(job.own for job in read_plan(self.folder).jobs)
 
     def test_a_wall_settles_at_once_with_two_rings(self):
         rounds, jobs = self.jobs_of(wall(5), 6, "--rings", "2")

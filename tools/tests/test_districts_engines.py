@@ -251,10 +251,8 @@ class Engines(RegionTest):
                         "districts: a process was killed, perhaps for want of memory: call it again with fewer --workers\n",
                     ),
                 )
-            self.assertEqual(
-                [path.name for path in self.folder.glob("*") if "town" in path.name or path.suffix == ".json"],
-                ["plan.json"],
-            )
+            made = [path.name for path in self.folder.rglob("*") if "town" in path.name or path.name == "tileset.json"]
+            self.assertEqual(made, [])
         self.assert_whole(REGION)
 
     def test_processes_that_are_interrupted_say_nothing(self):

@@ -1,8 +1,9 @@
 """Districts that are cut: jobs derive their neighbours, too, and are the region where these come out as in their own jobs."""
-import json
 import unittest
 
 from regions import RegionTest, asking
+
+from cga_city_lib.plan import read_plan
 
 # a lot of the stand-in draws where no earlier one that draws meets it, so in a row each depends on the one before it
 ROW = [f"lot l{k:02} 1 {k * 2} 0 2 4 wall" for k in range(20)]
@@ -11,11 +12,9 @@ ROW = [f"lot l{k:02} 1 {k * 2} 0 2 4 wall" for k in range(20)]
 class Rings(RegionTest):
     def rings(self):
         """The lots of each job, its own and its neighbours."""
-        plan = json.loads((self.folder / "plan.json").read_text())
-        return {
-            " ".join(plan["lots"][at] for at in own): " ".join(plan["lots"][at] for at in ring)
-            for _, own, ring, *_ in plan["jobs"]
-        }
+        plan = read_plan(self.folder)
+        lots = [(job.own, plan.lots_of(job)) for job in plan.jobs]
+        return {" ".join(names[:own]): " ".join(names[own:]) for own, names in lots}
 
     def test_jobs_have_their_neighbours_behind_their_own_lots(self):
         self.cut(asking(*ROW[:8]), 2, "--rings", "1")
