@@ -1,11 +1,12 @@
 -- The bill of a region in any number of parts: what is drawn, each as often.
-use Rattle.std.proofs.Common.{◌≡◌, ℕ, ◌+◌, List, [], ◌∷◌, ◌++◌, inl, inr, refl, sym, ap, ◌∙◌, arith, Bool}
+use Rattle.std.proofs.Common.{◌≡◌, ℕ, ◌+◌, List, [], ◌∷◌, ◌++◌, inl, inr, refl, sym, ap, ◌∙◌, Bool}
 use Rattle.std.specs.Prelude.{count_by, flat_map, sum_by}
 use Rattle.std.proofs.lemmas.Grind.{flat_map-append}
 use Rattle.std.proofs.lemmas.List.{append-nil, map-append}
 use Rattle.std.proofs.lemmas.List.Concat.{flat_map-cons}
 use Rattle.std.proofs.lemmas.List.Sums.{sum_by-cons}
 use Rattle.cga_order.specs.Once.{Once}
+use Rattle.cga_order.specs.World.{Among}
 use Rattle.cga_order.proofs.Door.{Once-index, count-once}
 use Rattle.cga_agenda.proofs.Door.{count_append}
 use Rattle.cga_shape.specs.declared.drawn.Drawn.{Drawn}
@@ -24,18 +25,18 @@ use Rattle.cga_region.specs.Parts.{AllTellAlike, BillsAreSums, drawn_apart}
 -- ---- what is drawn, lot by lot
 
 module _ (list : List Member) where
-  nothing : drawn_in [] list ≡ []
+  pub nothing : drawn_in [] list ≡ []
   unfolding drawn_in
   nothing = refl
 
-  first : (lot : Lot) (lots : List Lot)
+  pub first : (lot : Lot) (lots : List Lot)
       → drawn_in (names_of (lot ∷ lots)) list ≡ drawn_in (lot.name ∷ []) list ++ drawn_in (names_of lots) list
   unfolding drawn_in
   first lot lots =
       let own : List Drawn = flat_map drawn_of (members_of lot.name list) in
       ap (λ (drawn : List Drawn). drawn ++ drawn_in (names_of lots) list) (sym (append-nil own))
 
-  both : (lots others : List Lot)
+  pub both : (lots others : List Lot)
       → drawn_in (names_of (lots ++ others)) list ≡ drawn_in (names_of lots) list ++ drawn_in (names_of others) list
   unfolding drawn_in
   both lots others =
@@ -43,7 +44,7 @@ module _ (list : List Member) where
       ap (flat_map by) (map-append (λ (lot : Lot). lot.name) lots others) ∙ flat_map-append by (names_of lots) (names_of others)
 
 -- lists that tell the same of lots draw the same for them
-same_drawn : (lots : List Lot) (list other : List Member) → TellAlikeOf lots list other
+pub same_drawn : (lots : List Lot) (list other : List Member) → TellAlikeOf lots list other
     → drawn_in (names_of lots) list ≡ drawn_in (names_of lots) other
 same_drawn [] list other h = nothing list ∙ sym (nothing other)
 same_drawn (lot ∷ lots) list other h =
@@ -76,18 +77,23 @@ module _ (test : Drawn → Bool) (list : List Member) where
       let a = ap (count_by test) (first list lot lots) ∙ count_append test one rest in
       a ∙ (ap (λ (n : ℕ). count_by test one + n) (count_lots lots) ∙ sym (sum_by-cons of_lot lot lots))
 
-once_lots : (lots : List Lot) → NamesDiffer lots → Once lots
+pub once_lots : (lots : List Lot) → NamesDiffer lots → Once lots
 once_lots lots differ = Once-index lots (λ x i j h g. differ i j x x h g refl)
+
+-- for the same lots, in whatever order, is drawn the same, each instance as often
+pub same_lots : (test : Drawn → Bool) (list : List Member) (lots others : List Lot) → Once lots → Once others
+    → ((x : Lot) → Among x lots → Among x others) → ((x : Lot) → Among x others → Among x lots)
+    → count_by test (drawn_in (names_of lots) list) ≡ count_by test (drawn_in (names_of others) list)
+same_lots test list lots others one other to from =
+    let same : SameCounts lots others = λ t. count-once t lots others one other to from in
+    count_lots test list lots ∙ (sum_same (of_lot test list) lots others same ∙ sym (count_lots test list others))
 
 pub bills_are_sums : (sources : Sources) → NamesDiffer sources.lots
     → (parts : List (List Lot)) → ArePartsOf sources parts
     → (lists : List (List Member)) (list : List Member) → AllTellAlike parts lists list
     → BillsAreSums sources parts lists list
 bills_are_sums sources differ parts all lists list tell =
-    let lots : SameCounts sources.lots (joined parts) =
-    λ test. count-once test sources.lots (joined parts) (once_lots sources.lots differ) (once_lots (joined parts) all.differ)
-    (λ x. (all.same x).0) (λ x. (all.same x).1) in
     sum_of_bills (drawn_in (names_of sources.lots) list) (drawn_apart parts lists)
-    (λ test. count_lots test list sources.lots
-    ∙ (sum_same (of_lot test list) sources.lots (joined parts) lots
-    ∙ (sym (count_lots test list (joined parts)) ∙ ap (count_by test) (drawn_parts parts lists list tell))))
+    (λ test.
+    same_lots test list sources.lots (joined parts) (once_lots sources.lots differ) (once_lots (joined parts) all.differ) (λ x. (all.same x).0) (λ x. (all.same x).1)
+    ∙ ap (count_by test) (drawn_parts parts lists list tell))

@@ -2,3 +2,12 @@ mod Lots
 mod Bills
 mod Parts
 mod Jobs
+mod Reordered
+mod Joined
+mod Changes
+mod Drawing
+mod Balanced
+mod Again
+mod Back
+mod Refusals
+mod Rows

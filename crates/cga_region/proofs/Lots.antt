@@ -1,5 +1,5 @@
 -- The members of a lot are those that its district derives, and stand by their paths in both lists.
-use Rattle.std.proofs.Common.{◌≡◌, ℕ, List, [], ◌∷◌, ◌++◌, true, ◌⊎◌, inl, inr, sym, ap, ◌∙◌, subst}
+use Rattle.std.proofs.Common.{◌≡◌, ℕ, List, [], ◌++◌, true, inl, inr, sym, ap, ◌∙◌, subst}
 use Rattle.std.specs.List.{filter, flat_map}
 use Rattle.std.proofs.lemmas.Slice.Eq.{bytes_eq-Decides}
 use Rattle.cga_word.specs.declared.primitive.Primitive.{Primitive}

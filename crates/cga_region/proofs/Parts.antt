@@ -1,6 +1,6 @@
 -- A region in any number of parts, one part more at a time.
-use Rattle.std.proofs.Common.{◌≡◌, ◌+◌, ℕ, List, [], ◌∷◌, ◌++◌, Bool, ◌⊎◌, inl, inr, refl, sym, ap, ◌∙◌, subst, arith}
-use Rattle.std.specs.Prelude.{count_by, slice_get, Some}
+use Rattle.std.proofs.Common.{◌≡◌, ◌+◌, List, [], ◌∷◌, Bool, ◌⊎◌, inl, inr, refl, sym, ap, ◌∙◌}
+use Rattle.std.specs.Prelude.{count_by}
 use Rattle.cga_word.specs.declared.primitive.Primitive.{Primitive}
 use Rattle.cga_order.specs.declared.placed.Kind.{Kind}
 use Rattle.cga_order.specs.Once.{Once}
@@ -12,9 +12,8 @@ use Rattle.cga_shape.specs.declared.lot.Lot.{Lot}
 use Rattle.cga_shape.specs.declared.shape.Shape.{Shape}
 use Rattle.cga_shape.specs.declared.shape_fault.ShapeFault.{ShapeFault}
 use Rattle.cga_shape.specs.declared.sources.Sources.{Sources}
-use Rattle.cga_derivation.specs.Derivation.{IsDerived}
 use Rattle.cga_expand.specs.Children.{Member}
-use Rattle.cga_expand.specs.Derivation.{derivation_of, NamesDiffer}
+use Rattle.cga_expand.specs.Derivation.{NamesDiffer}
 use Rattle.cga_city.proofs.Door.{among_has, has_among}
 use Rattle.cga_city.specs.Nodes.{AreApart}
 use Rattle.cga_district.proofs.Door.{differ_left, differ_right, hulls_tell_apart, lot_among, parts_are_apart, two_names}

@@ -1,3 +1,9 @@
 pub mod Lots
 pub mod Parts
 pub mod Jobs
+pub mod Kept
+pub mod Changes
+pub mod Again
+pub mod Back
+pub mod Refusals
+pub mod Rows
