@@ -2,7 +2,7 @@
 import json
 import struct
 from array import array
-from typing import Any, Dict, List, Optional, Set
+from typing import Any, Dict, List, Optional, Sequence, Set
 
 FLOAT, INDEX = 5126, 5125  # of 32 bits, as arrays of kind f and I hold them
 KINDS = {"f": FLOAT, "I": INDEX, "H": 5123}
@@ -35,8 +35,15 @@ class Glb:
         self.bytes += data
         return number
 
-    def accessor(self, values: "array[Any]", form: str, target: Optional[int] = None, has_bounds: bool = False) -> int:
-        """The numbers of an array as a list of this form, little-endian on every machine."""
+    def accessor(
+        self,
+        values: "array[Any]",
+        form: str,
+        target: Optional[int] = None,
+        bounds: "Sequence[array[Any]]" = (),
+    ) -> int:
+        """The numbers of an array as a list of this form, little-endian on every machine; with the least and the greatest of
+        each of some bounds."""
         view = self.view(little(values), **({"target": target} if target else {}))
         width = SIZES[form]
         entry = {
@@ -45,10 +52,8 @@ class Glb:
             "count": len(values) // width,
             "type": form,
         }
-        if has_bounds:
-            entry.update(
-                min=[min(values[k::width]) for k in range(width)], max=[max(values[k::width]) for k in range(width)]
-            )
+        if bounds:
+            entry.update(min=[min(numbers) for numbers in bounds], max=[max(numbers) for numbers in bounds])
         return self.add("accessors", entry)
 
     def text(self, roots: List[int]) -> bytes:
@@ -68,14 +73,17 @@ class Glb:
         return json.dumps(told, separators=(",", ":")).encode()
 
     def file(self, roots: List[int]) -> bytes:
-        """The bytes of the file, whose scene has these nodes."""
+        return b"".join(self.pieces(roots))
+
+    def pieces(self, roots: List[int]) -> List[bytes]:
+        """The bytes of the file, whose scene has these nodes, one piece after the other."""
         self.bytes += bytes(-len(self.bytes) % 4)
         told = self.text(roots)
         told += b" " * (-len(told) % 4)
         parts = [struct.pack("<I4s", len(told), b"JSON"), told]
         if self.bytes:
             parts += [struct.pack("<I4s", len(self.bytes), b"BIN\0"), self.bytes]
-        return b"".join([struct.pack("<4sII", b"glTF", 2, 12 + sum(map(len, parts))), *parts])
+        return [struct.pack("<4sII", b"glTF", 2, 12 + sum(map(len, parts))), *parts]
 
 
 def short(numbers: "array[Any]", count: int) -> "array[Any]":

@@ -3,18 +3,21 @@ import heapq
 import math
 from array import array
 from collections import defaultdict
+from operator import itemgetter
 
 from .eye import NOTHING, fill
 from .progress import counted
 from .projection import Face
 
 NEAR = 1e-6
+DOWN = itemgetter(1)
 MOST_SPLITS = 20  # of one face: more are of no use to the eye
 
 
 def extent(faces):
     """The least and the greatest U and V."""
-    us, vs = zip(*((p[0], p[1]) for face in faces for p in face.corners))
+    us = [p[0] for face in faces for p in face.corners]
+    vs = [p[1] for face in faces for p in face.corners]
     return min(us), min(vs), max(us), max(vs)
 
 
@@ -27,9 +30,7 @@ def visible(faces, cells):
     for number, face in enumerate(counted(faces, "faces")):
         corners = [((u - low_u) * scale, (v - low_v) * scale, d * scale) for u, v, d in face.corners]
         for k in range(1, len(corners) - 1):
-            fill(
-                number, sorted((corners[0], corners[k], corners[k + 1]), key=lambda p: p[1]), seen, near, width, height
-            )
+            fill(number, sorted((corners[0], corners[k], corners[k + 1]), key=DOWN), seen, near, width, height)
     return [faces[number] for number in sorted(set(seen) - {NOTHING})]
 
 
@@ -63,15 +64,7 @@ def part_them(one, other):
 
 
 def boxes(faces):
-    return [
-        (
-            min(p[0] for p in face.corners),
-            min(p[1] for p in face.corners),
-            max(p[0] for p in face.corners),
-            max(p[1] for p in face.corners),
-        )
-        for face in faces
-    ]
+    return [extent((face,)) for face in faces]
 
 
 def overlapping(faces):

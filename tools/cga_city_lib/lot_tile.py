@@ -40,7 +40,7 @@ class Mesh:
         ids = [{"featureCount": count, "attribute": at, "propertyTable": at} for at, count in enumerate(counts)]
         return {
             "attributes": {
-                "POSITION": made.accessor(self.places, "VEC3", VERTICES, has_bounds=True),
+                "POSITION": made.accessor(self.places, "VEC3", VERTICES, [self.places[axis::3] for axis in range(3)]),
                 "NORMAL": made.accessor(self.normals, "VEC3", VERTICES),
                 "_FEATURE_ID_0": made.accessor(self.lots, "SCALAR", VERTICES),
                 "_FEATURE_ID_1": made.accessor(self.symbols, "SCALAR", VERTICES),

@@ -70,6 +70,19 @@ class Row(Dict[str, Tuple[str, ...]]):
         return self[text]
 
 
+class Maps(Dict[Tuple[str, str], str]):
+    """The numbers of lines `vt`; `lines` has those that weren't written yet."""
+
+    def __init__(self) -> None:
+        super().__init__()
+        self.lines: List[str] = []
+
+    def __missing__(self, pair: Tuple[str, str]) -> str:
+        self.lines.append("vt %s %s\n" % pair)
+        self[pair] = number = str(len(self) + 1)
+        return number
+
+
 def axis_of(way: Direction) -> int:
     """The axis that a direction goes along; 3 where it goes along none."""
     used = [axis for axis in range(3) if way[axis]]
@@ -89,6 +102,7 @@ class Shape:
         self.vertices = "v %s %s %s\n" * self.number
         self.corners = itemgetter(*[at for face in form.faces for at in face])
         self.faces = "".join("f" + " %s/%s" * len(face) + "\n" for face in form.faces)
+        self.words = [""] * self.faces.count("%s")
         points, pairs = form.points(), ([], [])  # type: List[Direction], Tuple[List[Way], List[Way]]
         for face in form.faces:
             both = directions(normal(*[points[at] for at in face[:3]]))
@@ -115,7 +129,7 @@ class Merged:
         self.reals = [Reals(Fraction(offset)) for offset in setting.offset]
         self.rows: Dict[Tuple[object, ...], Row] = {}
         self.known: Dict[Form, Known] = {}
-        self.maps: Dict[Tuple[str, str], str] = {}  # the numbers of lines `vt`
+        self.maps = Maps()
         self.texts = Texts()
 
     def row(self, key: Tuple[object, ...], words: Callable[[str], Iterable[str]]) -> Row:
@@ -143,8 +157,7 @@ class Merged:
     def lines(self) -> Iterator[str]:
         """The vertices, then the faces by lot and symbol."""
         for instances in self.lots.values():
-            for instance in instances:
-                yield self.vertices(instance)
+            yield "".join(map(self.vertices, instances))
         number = 1
         for lot, instances in counted(self.lots.items(), "lots"):
             yield f"o {lot or 'town'}\n"
@@ -155,32 +168,25 @@ class Merged:
             for symbol, some in groups.items():
                 self.meshes += 1
                 yield f"g {lot}.{symbol}\nusemtl {symbol or 'none'}\n"
-                for first, instance in some:
-                    yield from self.faces(first, instance)
+                yield "".join([self.faces(first, instance) for first, instance in some])
 
     def vertices(self, instance: Instance) -> str:
         _, form, (x, y, z) = instance
-        shape, (xs, ys, zs), _, _ = self.of(form)
+        shape, (xs, ys, zs), _, _ = self.known.get(form) or self.of(form)
         return shape.vertices % shape.coordinates(xs[x] + ys[y] + zs[z])
 
-    def faces(self, first: int, instance: Instance) -> Iterator[str]:
+    def faces(self, first: int, instance: Instance) -> str:
         """The lines `vt` that weren't written yet, and the lines of the faces."""
         _, form, (x, y, z) = instance
-        shape, _, (xs, ys, zs), leaning = self.of(form)
+        shape, _, (xs, ys, zs), leaning = self.known[form]
         texts = xs[x] + ys[y] + zs[z]
         if leaning:
             texts += self.along(leaning, (x, y, z))
-        pairs = list(zip(shape.us(texts), shape.vs(texts)))
-        numbers = list(map(self.maps.get, pairs))
-        if None in numbers:
-            for pair in pairs:
-                if pair not in self.maps:
-                    self.maps[pair] = str(len(self.maps) + 1)
-                    yield f"vt {pair[0]} {pair[1]}\n"
-            numbers = [self.maps[pair] for pair in pairs]
-        words: List[Optional[str]] = [None] * (2 * len(numbers))
-        words[::2], words[1::2] = shape.corners(list(map(str, range(first, first + shape.number)))), numbers
-        yield shape.faces % tuple(words)
+        words: List[str] = shape.words[:]
+        words[1::2] = map(self.maps.__getitem__, zip(shape.us(texts), shape.vs(texts)))
+        words[::2] = shape.corners(list(map(str, range(first, first + shape.number))))
+        lines, self.maps.lines = self.maps.lines, []
+        return "".join(lines) + shape.faces % tuple(words)
 
     def along(self, ways: Sequence[Way], corner: Sequence[str]) -> Tuple[str, ...]:
         """u or v of a corner for each of the ways that go along no axis."""

@@ -1,53 +1,92 @@
 """The lines of faces that are drawn: edges between faces of one symbol in one plane, and within them, aren't."""
-from collections import defaultdict
-from typing import Any, Dict, Iterable, Iterator, List, Sequence, Tuple
+from typing import Any, Dict, Iterator, List, NamedTuple, Sequence, Tuple
 
 from .overlaps import Plane
 
 Span = Tuple[float, float]
-Vector = Tuple[float, ...]
+Vector = Tuple[float, float, float]
 SHIFT = 0.00317  # so that lengths of round decimals don't lie where rounding goes either way
 SLACK = 0.001  # shorter pieces of edges are no lines
 
 
-def rounded(*numbers: float) -> Vector:
+class Rounded(Dict[float, float]):
     """What is within a hundredth counts as one: in a turned town corners of one wall aren't quite in one plane."""
-    return tuple(round(number + SHIFT, 2) for number in numbers)
+
+    def __missing__(self, number: float) -> float:
+        self[number] = found = round(number + SHIFT, 2)
+        return found
 
 
-def line_of(p: Vector, q: Vector) -> Tuple[Vector, Vector, Vector, float, float]:
-    """The line through two points: a key that both directions share, and where on it the points lie."""
-    along = tuple(b - a for a, b in zip(p, q))
-    size = sum(part * part for part in along) ** 0.5
-    along = tuple(part / size for part in along)
-    if tuple(round(part, 3) + 0.0 for part in along) < (0.0, 0.0, 0.0):
-        along = tuple(-part for part in along)
-    start, end = (sum(a * b for a, b in zip(point, along)) for point in (p, q))
-    foot = tuple(a - start * b for a, b in zip(p, along))
-    return rounded(*along, *foot), along, foot, start, end
+class Edge(NamedTuple):
+    """An edge of a face: its line, and where on that its ends lie, from the line's foot on."""
+
+    face: int
+    line: "Line"
+    along: Vector
+    foot: Vector
+    start: float
+    end: float
 
 
-def edges(faces: Sequence[Any]) -> Tuple[Dict[tuple, Tuple[List[Span], List[Span]]], List[tuple], Dict[tuple, Plane]]:
-    """Of each line of a plane the pieces that faces of one symbol have on either side, each edge with its face, and the planes."""
-    pieces, found, planes = defaultdict(lambda: ([], [])), [], {}
+class Line:
+    """The pieces of a line in a plane that faces of one symbol have on either side."""
+
+    def __init__(self, plane: Plane) -> None:
+        self.plane, self.sides = plane, ([], [])  # type: Plane, Tuple[List[Span], List[Span]]
+
+
+def is_backward(way: Vector) -> bool:
+    """Whether its first part that counts is below 0, so that the way back stands for both."""
+    for part in way:
+        if abs(part) >= 0.001 or round(part, 3):
+            return part < 0
+    return False
+
+
+def ends_of(p: Vector, q: Vector) -> Tuple[Vector, Vector, float, float]:
+    """The line through two points: its direction, its foot, and where on it the points lie."""
+    (x, y, z), (u, v, w) = p, q
+    a, b, c = u - x, v - y, w - z
+    size = (a * a + b * b + c * c) ** 0.5
+    a, b, c = a / size, b / size, c / size
+    if is_backward((a, b, c)):
+        a, b, c = -a, -b, -c
+    start, end = x * a + y * b + z * c, u * a + v * b + w * c
+    return (a, b, c), (x - start * a, y - start * b, z - start * c), start, end
+
+
+def edges(faces: Sequence[Any]) -> List[Edge]:
+    """The edges of all faces, whose lines have all pieces."""
+    found: List[Edge] = []
+    rounded = Rounded()
+    at = rounded.__getitem__
+    planes: Dict[Tuple[Any, ...], Plane] = {}
+    lines: Dict[Tuple[Any, ...], Line] = {}
     for number, face in enumerate(faces):
-        plane = rounded(*face.normal, sum(a * b for a, b in zip(face.corners[0], face.normal)))
-        planes.setdefault((face.symbol, plane), Plane(plane)).add(face.corners)
+        (a, b, c), (x, y, z) = face.normal, face.corners[0]
+        sight = at(a), at(b), at(c), at(x * a + y * b + z * c)
+        plane = planes.get((face.symbol, sight)) or planes.setdefault((face.symbol, sight), Plane(sight))
+        plane.add(face.corners)
         for p, q in zip(face.corners, face.corners[1:] + face.corners[:1]):
-            if sum(abs(a - b) for a, b in zip(p, q)) < 1e-6:
+            if abs(p[0] - q[0]) + abs(p[1] - q[1]) + abs(p[2] - q[2]) < 1e-6:
                 continue
-            key, along, foot, start, end = line_of(p, q)
-            pieces[face.symbol, plane, key][start > end].append((min(start, end), max(start, end)))
-            found.append((number, (face.symbol, plane, key), along, foot, start, end))
+            along, foot, start, end = ends_of(p, q)
+            key = plane, *map(at, along), *map(at, foot)
+            line = lines.get(key) or lines.setdefault(key, Line(plane))
+            line.sides[start > end].append((min(start, end), max(start, end)))
+            found.append(Edge(number, line, along, foot, start, end))
     for plane in planes.values():
         plane.sort()
-    return pieces, found, planes
+    for line in lines.values():
+        for side in line.sides:
+            side.sort()
+    return found
 
 
-def without(piece: Span, others: Iterable[Span]) -> Iterator[Span]:
-    """The parts of a piece that no other covers."""
+def without(piece: Span, others: Sequence[Span]) -> Iterator[Span]:
+    """The parts of a piece that no other covers; the others are in order."""
     low, high = piece
-    for start, end in sorted(others):
+    for start, end in others:
         if end <= low + SLACK or start >= high - SLACK:
             continue
         if start > low + SLACK:
@@ -59,13 +98,12 @@ def without(piece: Span, others: Iterable[Span]) -> Iterator[Span]:
         yield low, high
 
 
-def outlines(faces: Sequence[Any]) -> List[List[Tuple[Vector, Vector]]]:
+def outlines(faces: Sequence[Any]) -> List[List[Tuple[Span, Span]]]:
     """For each face the segments of its edges that are drawn."""
-    pieces, found, planes = edges(faces)
-    lines = [[] for _ in faces]
-    for number, key, along, foot, start, end in found:
-        for piece in without((min(start, end), max(start, end)), pieces[key][start < end]):
-            p, q = (tuple(f + at * a for f, a in zip(foot, along)) for at in piece)
-            if not planes[key[:2]].covers(p, q):
-                lines[number].append((p[:2], q[:2]))
-    return lines
+    drawn: List[List[Tuple[Span, Span]]] = [[] for _ in faces]
+    for face, line, (a, b, c), (x, y, z), start, end in edges(faces):
+        for low, high in without((min(start, end), max(start, end)), line.sides[start < end]):
+            p, q = (x + low * a, y + low * b, z + low * c), (x + high * a, y + high * b, z + high * c)
+            if not line.plane.covers(p, q):
+                drawn[face].append((p[:2], q[:2]))
+    return drawn

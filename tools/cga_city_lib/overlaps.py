@@ -1,4 +1,6 @@
 """Which lines lie within a face: those of one symbol in one plane may lie over each other."""
+from operator import itemgetter
+
 MANY = 64  # cells of a face, from which on it is looked at for each line
 SLACK = 0.001  # how far within a face the middle of a line has to be
 
@@ -18,7 +20,11 @@ def depth_in(ring, point):
 
 
 def area(ring):
-    return sum(x0 * y1 - x1 * y0 for (x0, y0), (x1, y1) in zip(ring, ring[1:] + ring[:1])) / 2
+    found, (x0, y0) = 0.0, ring[0]
+    for x1, y1 in ring[1:] + ring[:1]:
+        found += x0 * y1 - x1 * y0
+        x0, y0 = x1, y1
+    return found / 2
 
 
 class Plane:
@@ -26,11 +32,8 @@ class Plane:
 
     def __init__(self, normal):
         steepest = max(range(3), key=lambda k: abs(normal[k]))
-        self.axes = [k for k in range(3) if k != steepest]
+        self.flat = itemgetter(*[k for k in range(3) if k != steepest])
         self.rings, self.cell, self.cells, self.large = [], 1.0, {}, []
-
-    def flat(self, point):
-        return tuple(point[k] for k in self.axes)
 
     def add(self, corners):
         ring = [self.flat(corner) for corner in corners]
@@ -57,10 +60,9 @@ class Plane:
     def covers(self, p, q):
         """Whether a face has this line within it, not along its own edge."""
         a, b = self.flat(p), self.flat(q)
-        middle = tuple((one + other) / 2 for one, other in zip(a, b))
-        some = self.cells.get((self.number(middle[0]), self.number(middle[1])), [])
-        return any(
-            depth_in(ring, middle) > SLACK and min(depth_in(ring, a), depth_in(ring, b)) > -SLACK
-            for rings in (some, self.large)
-            for ring in rings
-        )
+        middle = (a[0] + b[0]) / 2, (a[1] + b[1]) / 2
+        for rings in (self.cells.get((self.number(middle[0]), self.number(middle[1])), ()), self.large):
+            for ring in rings:
+                if depth_in(ring, middle) > SLACK and min(depth_in(ring, a), depth_in(ring, b)) > -SLACK:
+                    return True
+        return False

@@ -40,14 +40,14 @@ class Scene:
         self.numbers: Dict[Tuple[Any, ...], int] = {}  # of the meshes that instances share
         self.patterns: Dict[Form, Pattern] = {}
 
-    def file(self, lots: Iterable[Tuple[str, List[Instance]]]) -> bytes:
-        """The bytes of the file of these lots, as pairs of a name and instances."""
+    def pieces(self, lots: Iterable[Tuple[str, List[Instance]]]) -> List[bytes]:
+        """The bytes of the file of these lots, as pairs of a name and instances; one piece after the other."""
         nodes = [self.lot(name, instances) for name, instances in lots if instances]
         extras = {"offset": list(self.offset), "metres": self.metres, **self.extras}
         root = {"name": "town", "children": nodes, "extras": extras}
         if self.metres != 1:
             root["scale"] = [self.metres] * 3
-        return bytes(self.glb.file([self.glb.add("nodes", root)]))
+        return self.glb.pieces([self.glb.add("nodes", root)])
 
     def lot(self, name: str, solids: List[Instance]) -> int:
         low = self.low(solids)
@@ -63,10 +63,10 @@ class Scene:
             else:
                 kept = once.get((solid.symbol,))
                 if kept is None:
-                    kept = once[(solid.symbol,)] = Corners()
-                kept.add(pattern_of(solid.form, self.patterns), self.corner(solid.corner), low)
+                    kept = once[(solid.symbol,)] = Corners(low)
+                kept.add(pattern_of(solid.form, self.patterns), self.corner(solid.corner))
         node: Dict[str, Any] = {"name": name, "translation": list(low)}
-        parts = [found.primitive(self.glb, self.material(*key)) for key, found in once.items() if found.number]
+        parts = [found.primitive(self.glb, self.material(*key)) for key, found in once.items() if found.tell()]
         if parts:
             node["mesh"] = self.glb.add("meshes", {"name": name, "primitives": parts})
         if instances:

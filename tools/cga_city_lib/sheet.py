@@ -40,6 +40,17 @@ def short(number):
     return "0" if text == "-0" else text
 
 
+class Texts(dict):
+    """Numbers as they are written."""
+
+    def __missing__(self, number):
+        self[number] = text = short(number)
+        return text
+
+
+TEXTS = Texts()
+
+
 class Sheet:
     """Lines of SVG; `place` says where a point of the town comes on paper. `name` stands in front of all ids."""
 
@@ -60,7 +71,8 @@ class Sheet:
         return math.ceil(min(CELLS, 4 * self.mm * max(self.box[2] - self.box[0], self.box[3] - self.box[1]))) + 1
 
     def text(self, point):
-        return ",".join(map(short, self.place(point)))
+        x, y = self.place(point)
+        return f"{TEXTS[x]},{TEXTS[y]}"
 
     def path(self, points, is_closed):
         return "M" + " ".join(map(self.text, points)) + "Z" * is_closed

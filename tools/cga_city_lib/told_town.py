@@ -1,6 +1,7 @@
 """A script's town at its end, as a program tells it: the lots in order, and a line for each instance, in the order of `print`
 where that is wanted."""
 from collections import Counter
+from itertools import repeat
 from typing import List, NamedTuple, Optional, Sequence
 
 from .call import Refused
@@ -123,9 +124,14 @@ def in_order(lots: List[str], teller: Teller, answers: List[List[str]]) -> Told:
     (trace,) = teller.ask(["trace"], 1)
     traced, drawn = Traced(trace[1:]), teller.drawn()
     found = list(traced.in_order(lots))
-    if len(found) != len(drawn) or not all(drawn[at].startswith(f"{lot} ") for lot, at in found):
+    order = [at for _, numbers in found for at in numbers]
+    if len(order) != len(drawn) or not all(are_of(lot, [drawn[at] for at in numbers]) for lot, numbers in found):
         return Told(lots, sorted(drawn), None, answers)
-    return Told(lots, [drawn[at] for _, at in found], [traced.ids[at] for _, at in found], answers)
+    return Told(lots, [drawn[at] for at in order], [traced.ids[at] for at in order], answers)
+
+
+def are_of(lot: str, lines: Sequence[str]) -> bool:
+    return all(map(str.startswith, lines, repeat(f"{lot} ")))
 
 
 def check_settings(script: Script, answers: Sequence[List[str]]) -> None:

@@ -42,15 +42,16 @@ class Traced:
         solids = count(-1, -1)
         return [next(solids) if at is None else at for at in found]
 
-    def in_order(self, lots: Sequence[str]) -> Iterator[Tuple[str, int]]:
-        """The lot and the number of each solid, lot by lot and by its path."""
+    def in_order(self, lots: Sequence[str]) -> Iterator[Tuple[str, List[int]]]:
+        """Lot by lot the numbers of its solids, by their paths."""
         below, ends = self.below, self.ends
         for lot in lots:
             root = self.known.get(lot + "/")
-            waiting = [] if root is None else [root]
+            waiting, found = [] if root is None else [root], []
             while waiting:
                 at = waiting.pop()
                 if at < 0:
-                    yield lot, -at - 1
+                    found.append(-at - 1)
                 else:
                     waiting += below[ends[at] : ends[at + 1]][::-1]
+            yield lot, found

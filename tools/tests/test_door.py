@@ -129,7 +129,7 @@ class Traces(unittest.TestCase):
         steps = ["# step b / house - - FlatScope", "# step a / house - - 3", "# step a /1 roof - - 1"]
         traced = Traced(steps)
         self.assertEqual(traced.ids, ["a/0", "a/2", "a/1/0"])
-        self.assertEqual(list(traced.in_order(["b", "a"])), [("a", 0), ("a", 2), ("a", 1)])
+        self.assertEqual(list(traced.in_order(["b", "a", "c"])), [("b", []), ("a", [0, 2, 1]), ("c", [])])
 
 
 class ByStandIn(Given):

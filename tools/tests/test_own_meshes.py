@@ -96,9 +96,10 @@ def a_glb(places=(0, 0, 0, 2, 0, 0, 0, 4, 0), **more):
     texture = made.add("textures", {"source": image, "sampler": made.add("samplers", {"wrapS": 33071})})
     rough = {"baseColorFactor": [0.1, 0.2, 0.3, 0.5], "baseColorTexture": {"index": texture}, "roughnessFactor": 0}
     made.add("materials", {"name": "pane", "alphaMode": "BLEND", "pbrMetallicRoughness": rough})
+    flat = array("f", places)
     part = {
         "attributes": {
-            "POSITION": made.accessor(array("f", places), "VEC3", VERTICES, has_bounds=True),
+            "POSITION": made.accessor(flat, "VEC3", VERTICES, [flat[axis::3] for axis in range(3)]),
             "TEXCOORD_0": made.accessor(array("f", [0, 0, 1, 0, 0, 1]), "VEC2", VERTICES),
         },
         "indices": made.accessor(array("H", [0, 1, 2]), "SCALAR", INDICES),
