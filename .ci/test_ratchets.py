@@ -1,5 +1,5 @@
 #!/usr/bin/env python3
-"""What the gate compares with committed numbers: instructions of works, lines of wings, types of functions."""
+"""What the gate compares with committed numbers: instructions of works, lines of wings, types of functions; and links."""
 import ast
 import os
 import subprocess
@@ -12,6 +12,7 @@ from typing import Dict
 import budget
 import typed
 import weight
+import width
 
 LIST = """# a comment
 door   cga_main   100 40 60  1.5 -
@@ -73,6 +74,25 @@ class Types(unittest.TestCase):
     def test_list(self) -> None:
         lacking = [("old.py", ["1: f"]), ("new.py", ["2: g"]), ("whole.py", [])]
         self.assertEqual(len(typed.faults(["old.py"], lacking)), 1)
+
+
+class Links(unittest.TestCase):
+    def test_of_code(self) -> None:
+        with tempfile.TemporaryDirectory() as folder:
+            top = Path(folder)
+            for name in ("crates/cga_a/src", "crates/cga_a/out", "docs"):
+                (top / name).mkdir(parents=True)
+            for name in (
+                "crates/cga_a/src/lib.rt",
+                "crates/cga_a/notes",
+                "crates/cga_a/out/kept",
+                "docs/Law.antt",
+                "docs/page.md",
+            ):
+                (top / name).symlink_to("nowhere")
+            (top / "docs/plain.rt").write_text("")
+            found = sorted(fault.split(" ")[0] for fault in width.links(top))
+        self.assertEqual(found, ["crates/cga_a/notes", "crates/cga_a/src/lib.rt", "docs/Law.antt"])
 
 
 if __name__ == "__main__":

@@ -1,8 +1,9 @@
 #!/usr/bin/env python3
 """width.py: no statement of a lemma is wider than 120 columns, no import wider than 200, and the wide lines of answers and
-proof terms don't grow in number. Each fault has a line, and then the status is 1. What is read is how a file is written
-and not what it says: the checker takes any width.
+proof terms don't grow in number. No file of the code is a symbolic link, which `rt ci` refuses at its end. Each fault has a
+line, and then the status is 1. What is read is how a file is written and not what it says: the checker takes any width.
 """
+import os
 import pathlib
 import re
 import sys
@@ -26,8 +27,18 @@ def faults(path, lines):
             yield f"{path.relative_to(TOP)}:{number}: {len(line)} columns, {most} at most"
 
 
+def links(top):
+    """The links in crates/, and those elsewhere that are named as code."""
+    for folder, folders, files in os.walk(top):
+        folders[:] = [name for name in folders if name not in (".git", "out")]
+        for path in sorted(pathlib.Path(folder, name) for name in folders + files):
+            place = path.relative_to(top)
+            if path.is_symlink() and (place.parts[0] == "crates" or path.suffix in (".rt", ".antt")):
+                yield f"{place} is a symbolic link, and has to be a file"
+
+
 def main():
-    found, wide = [], 0
+    found, wide = list(links(TOP)), 0
     for path in sorted(TOP.glob("crates/*/*/**/*.antt")):
         if path.relative_to(TOP).parts[2] in ("specs", "proofs"):
             lines = path.read_text().split("\n")
