@@ -17,6 +17,7 @@ HEAD_EDITS = "rules put drop attr priority order".split()
 DRESSING = "asset dress undress".split()
 NOT_KEPT = {"city", "judge", "trace"}  # of a whole town
 OK = "# ok"
+NO_SYMBOL = "# refused NoSymbol "
 Reply = Union[str, bytes]  # a line, or a text
 
 
@@ -107,8 +108,18 @@ class Commands:
             self.set_rules(former)
             return dump[0], Changes()
         reply, changes = self.done(Edit({}, new, tuple(lines)))
+        if reply.startswith(NO_SYMBOL):
+            reply = self.first_without_rules(reply)
         self.set_rules(new if reply == OK else former)
         return reply, changes
+
+    def first_without_rules(self, reply: str) -> str:
+        """The reply of one run: of the lots whose symbols the new rules don't have, it tells the first. A job has its lots in an
+        order of its own."""
+        sources = self.region.sources
+        symbols = dict.fromkeys(sources.lots[name].line.rsplit(" ", 1)[1] for name in sources.in_order())
+        replies = (self.rules.ask([f"lot x 0 0 0 1 1 {symbol}", "unlot x"])[0] for symbol in symbols)
+        return next((told for told in replies if told.startswith(NO_SYMBOL)), reply)
 
     def set_rules(self, head: List[str]) -> None:
         """The process without lots has these rules, also where another one is begun."""

@@ -179,16 +179,10 @@ class KeptRegion:
         while todo:
             refusals = {self.take(job, found) for job, _ in todo} - {""}
             if refusals:
-                raise RefusedByJob(self.first(refusals))
+                raise RefusedByJob(min(refusals))  # so that OverBudget, the last cause of a run, is told last
             todo = [(job, steps[1:]) for job, steps in todo if steps[1:]]
             for job, steps in todo:
                 self.send(job, steps[0])
-
-    def first(self, refusals: Set[str]) -> str:
-        """The reply of one run: of several symbols without rules that of the first lot is told, before all else."""
-        symbols = (self.sources.lots[name].line.rsplit(" ", 1)[1] for name in self.sources.in_order())
-        told = (f"# refused NoSymbol {symbol}" for symbol in symbols) if len(refusals) > 1 else iter(())
-        return next((reply for reply in told if reply in refusals), min(refusals))
 
     def send(self, job: Job, step: Step) -> None:
         if job.live is None:

@@ -144,6 +144,14 @@ class Kept(unittest.TestCase):
         self.assertEqual(beside.ask("drop 8")[0], ["# ok"])
         beside.ask("undo")
 
+    def test_of_lots_without_rules_the_first_is_told(self):
+        """A lot that came last stands first in its job, or anywhere."""
+        beside = self.beside("plain")
+        for at, symbol in enumerate(("ghost", "tower", "home", "shop", "tower", "ghost")):
+            beside.ask(f"lot s{at} 1 {beside.kind.ground(at)} {symbol}")
+        for rules in ("shop", "ghost", "tower"):
+            self.assertIn("NoSymbol", beside.ask(f"rules\n1: {rules} -> NIL\nend")[0][0])
+
     def test_edits_of_another_script_are_refused(self):
         beside = self.beside("plain")
         beside.ask("unlot s3")
