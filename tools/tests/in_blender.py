@@ -14,10 +14,13 @@ from pathlib import Path
 import own_window
 import solid_table
 from in_process import called
+from test_other_readers import TILE
+
+from cga_city_lib.tile_glb import glb
 
 TESTS = Path(__file__).resolve().parent
 TOOLS = TESTS.parent
-TOLD = ["the places are taken", "the add-on follows", "the glTF file is taken"]
+TOLD = ["the places are taken", "the add-on follows", "the glTF file is taken", "the tile is taken"]
 UPRIGHT = [(1, 0, 0), (0, 1, 0), (0, 0, 1)]
 TOWN = solid_table.text(
     [
@@ -49,7 +52,8 @@ def blender(*words):
     env = {**os.environ, "PATH": f"{os.path.dirname(path)}:{os.environ['PATH']}"}
     done = subprocess.run(words, stdout=subprocess.PIPE, stderr=subprocess.STDOUT, text=True, env=env)
     is_well = done.returncode == 0 and all(told in done.stdout for told in TOLD)
-    print("; ".join(TOLD) if is_well else done.stdout)
+    skipped = [line for line in done.stdout.split("\n") if line.startswith("SKIPPED")]
+    print("\n".join(["; ".join(TOLD), *skipped]) if is_well else done.stdout)
     return is_well
 
 
@@ -65,6 +69,10 @@ def steps(folder):
     own_window.put(folder / "own")
     words = (folder / "own/town.obj", folder / "town.glb", "--mesh", f"window={folder / 'own/window.obj'}")
     status, _, said = called("glb", *words)
+    if status:
+        sys.exit(said)
+    (folder / "tile.glb").write_bytes(glb(TILE.encode(), (2, 0, 7), {"a": ("A", {"zone": "W2"})}))
+    status, _, said = called("usda", *words[:1], folder / "town.usda", *words[2:])
     if status:
         sys.exit(said)
     scripts = [TOOLS / "blender/place.py", *(TESTS / f"blender_{name}.py" for name in ("places", "steps", "glb"))]
