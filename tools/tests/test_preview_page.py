@@ -100,6 +100,16 @@ class PreviewPage(unittest.TestCase):
         self.browser.wait("box_of('slider_h').value === '4.5'")
         self.assertEqual(self.browser.run("box_of('slider_h').parentNode.className"), "turned")
 
+    def test_a_value_that_is_told_before_its_own_answer_is_shown(self):
+        """The answer to what the page sends is held up until the town with it is there."""
+        self.browser.run(
+            "(() => { const was = fetch; fetch = (name, words) => name !== 'set' ? was(name, words) : was(name, words)"
+            ".then(async answer => { while (head.values.h !== '2') await new Promise(done => setTimeout(done, 10)); return answer; }); })()"
+        )
+        self.browser.run("turn('h', '2')")
+        shown = "[box_of('slider_h').value, box_of('slider_h').parentNode.className]"
+        self.assertEqual(self.browser.run(shown), ["2", "turned"])
+
     def test_a_click_opens_the_lot_and_the_editor(self):
         run = self.browser.run
         self.browser.click(240, 160)

@@ -115,7 +115,7 @@ function slider(name, text) {
     turn(name, text);
   };
   row.title = 'double click: as in the script';
-  shown_values.set(name, {set, text, is_held: () => is_turning || input.matches(':active')});
+  shown_values.set(name, {set, text, is_held: () => sent.has(name) || input.matches(':active')});
   set(text);
   return row;
 }
@@ -137,15 +137,19 @@ function rows_of_sliders() {
 const changed_values = () => Object.fromEntries(Object.entries(head.values).filter(([name, value]) => value !== head.attributes[name]));
 
 // They are as the script says after each save, and then as any page sets them.
-let sliders_for = '';
-const shown_values = new Map();
+let sliders_for = '', turns_told = 0;
+const shown_values = new Map(), sent = new Map(); // what the rows show; values that were sent and that nothing was told of yet
 function sliders() {
   const said = JSON.stringify([head.attributes, head.save, head.panel, head.variants]);
   if (said !== sliders_for) {
     sliders_for = said;
     shown_values.clear();
+    sent.clear();
     box_of('sliders').replaceChildren(...rows_of_sliders());
   }
+  const is_answered = head.turns !== turns_told && !is_turning; // else what is told may be of values that were sent before
+  for (const [name, value] of sent) if (is_answered || head.values[name] === value) sent.delete(name);
+  turns_told = head.turns;
   for (const [name, {set, text, is_held}] of shown_values) if (!is_held()) set(head.values[name] ?? text);
 }
 
@@ -154,12 +158,13 @@ const wanted = new Map();
 let is_turning = false;
 async function turn(name, value) {
   wanted.set(name, value);
+  sent.set(name, value);
   if (is_turning) return;
   is_turning = true;
   while (wanted.size) {
     const values = Object.fromEntries(wanted);
     wanted.clear();
-    await fetch('set', {method: 'POST', body: JSON.stringify(values)}).catch(() => {});
+    await fetch('set', {method: 'POST', body: JSON.stringify(values)}).catch(() => sent.clear());
   }
   is_turning = false;
 }
