@@ -10,7 +10,7 @@ from .call import Refused
 from .page import page
 from .progress import counted
 
-PATIENCE = 120  # seconds for a picture
+PATIENCE = 300  # seconds for a picture
 MEAN_OF = 8  # pictures that a fine one is the mean of
 DONE = "gl.readPixels(0, 0, 1, 1, gl.RGBA, gl.UNSIGNED_BYTE, new Uint8Array(4))"  # waits until it is drawn
 VIEWS = {  # what the page does for each view
