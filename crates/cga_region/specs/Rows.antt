@@ -11,7 +11,7 @@ use Rattle.cga_shape.specs.declared.edit_refused.EditRefused.TheVariants.{NoLot,
 use Rattle.cga_shape.specs.declared.lot.Lot.{Lot}
 use Rattle.cga_shape.specs.declared.sources.Sources.{Sources}
 use Rattle.cga_region.specs.Back.{undone}
-use Rattle.cga_region.specs.Changes.{changes_for, Course, IsNetOf, no_changes, told_by_all}
+use Rattle.cga_region.specs.Changes.{changes_for, Course, IsNetOf, LeadTo, no_changes, Step, TellOfSame, told_by, told_by_all}
 use Rattle.cga_region.specs.Refusals.{changed_in_region}
 
 -- an instance of this lot, and a lot of this name
@@ -42,6 +42,13 @@ going_over d =
     ∷ record { was = []; now = []; steps = record { names = codes "a" ∷ []; changes = record { gone = []; come = d ∷ [] }; drawn = d ∷ [] } ∷ [] }
     ∷ []
 
+-- `b` was a neighbour and becomes an own lot: the first step takes it away, and the second one sets it
+abbrev pub becoming_own : Drawn → Drawn → List Step
+becoming_own a b =
+    record { names = codes "a" ∷ []; changes = record { gone = b ∷ []; come = [] }; drawn = a ∷ [] }
+    ∷ record { names = codes "a" ∷ codes "b" ∷ []; changes = record { gone = []; come = b ∷ [] }; drawn = a ∷ b ∷ [] }
+    ∷ []
+
 -- no rules, so that each lot is refused
 abbrev pub no_rules : Grammar
 no_rules = record { attributes = []; rules = [] }
@@ -55,12 +62,21 @@ pub record RowsAreSo (d e : Drawn) (x : Lot) (s : Sources) : Type 0 where
   -- what went in one job and came in another is told by both, and nothing of it is left
   pub over : told_by_all (going_over (in_lot (codes "a") d)) ≡ record { gone = in_lot (codes "a") d ∷ []; come = in_lot (codes "a") d ∷ [] }
   pub nothing : IsNetOf no_changes (told_by_all (going_over (in_lot (codes "a") d)))
+  -- a neighbour that becomes an own lot is told as one that came
+  pub led : LeadTo (codes "a" ∷ []) (in_lot (codes "a") d ∷ in_lot (codes "b") e ∷ [])
+      (becoming_own (in_lot (codes "a") d) (in_lot (codes "b") e)) (codes "a" ∷ codes "b" ∷ [])
+      (in_lot (codes "a") d ∷ in_lot (codes "b") e ∷ [])
+  pub came : told_by (becoming_own (in_lot (codes "a") d) (in_lot (codes "b") e))
+      ≡ record { gone = []; come = in_lot (codes "b") e ∷ [] }
+  -- and has to be taken away first
+  pub unled : TellOfSame (codes "a" ∷ []) (codes "a" ∷ codes "b" ∷ [])
+      (in_lot (codes "a") d ∷ in_lot (codes "b") e ∷ []) → ⊥
   -- taken back
   pub back : undone (record { gone = d ∷ []; come = [] }) ≡ record { gone = []; come = d ∷ [] }
   -- a box that grows may come to touch one that it didn't
   pub apart : touches (wide 1) behind_two ≡ false
   pub grown : touches (wide 2) behind_two ≡ true
-  -- of the process of the rules, which has no lots, and two jobs, one alone refuses, and so does the region
+  -- the process of the rules, which has no lots, accepts what one job refuses, and the region refuses it
   pub accepts : changed (with_lots s []) (edit.Rules no_rules) ≡ Ok (record { grammar = no_rules; lots = []; mode = s.mode })
   pub refuses : changed (with_lots s (x ∷ [])) (edit.Rules no_rules) ≡ Err (NoSymbol x.symbol)
   pub region : changed_in_region (with_lots s (x ∷ [])) (edit.Rules no_rules) ≡ Err (NoSymbol x.symbol)
