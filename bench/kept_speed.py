@@ -2,9 +2,10 @@
 """Times tools/region on regions of shops: for each a row of the table in docs/DISTRICTS.md. A time is that by the clock from a line
 until its reply and all that changed was read: the least, and the middle one.
 
-usage: bench/kept_speed.py [--folder FOLDER] [--lots N] [ROW ..]
+usage: bench/kept_speed.py [--folder FOLDER] [--lots N] [--most N] [ROW ..]
 
 A ROW is asking, plain or wall of bench/region_speed.py, with N lots in place of 36,000; without one all are printed.
+Jobs have 500 lots at most, or as many as --most says: with 1600 there are 36 of 36,000 lots. In the wall they have 200.
 """
 import argparse
 import statistics
@@ -39,9 +40,9 @@ def memory(pid: int) -> float:
 class Row:
     """A kept region, and what its edits took."""
 
-    def __init__(self, name: str, lots: int, top: Path) -> None:
-        wall = name == "wall"
-        self.region = REGIONS[name]._replace(lots=lots, words=WALL if wall else [])
+    def __init__(self, name: str, lots: int, most: int, top: Path) -> None:
+        rows = ["--lots", str(most)]
+        self.region = REGIONS[name]._replace(lots=lots, words=WALL if name == "wall" else rows)
         self.script, self.folder = top / f"{name}.cga", top / name
         self.corners = list(places(self.region))
         write_script(self.region, self.script)
@@ -94,6 +95,7 @@ def main() -> None:
     known: Any = argparse.ArgumentParser(description=__doc__, formatter_class=argparse.RawDescriptionHelpFormatter)
     known.add_argument("--folder")
     known.add_argument("--lots", type=int, default=36000)
+    known.add_argument("--most", type=int, default=500)
     known.add_argument("rows", nargs="*", choices=[[], "asking", "plain", "wall"], metavar="ROW")
     words = known.parse_args()
     rows: Dict[str, None] = dict.fromkeys(words.rows or ["asking", "plain", "wall"])
@@ -104,7 +106,7 @@ def main() -> None:
     print("|---" * 12 + "|")
     for name in rows:
         with tempfile.TemporaryDirectory(dir=words.folder) as top:
-            row = Row(name, words.lots, Path(top))
+            row = Row(name, words.lots, words.most, Path(top))
             print("| " + " | ".join([f"{words.lots:,} {name}", *row.cells()]) + " |", flush=True)
             row.kept.close()
 

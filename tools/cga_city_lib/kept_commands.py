@@ -8,6 +8,7 @@ from .kept_region import KeptRegion
 from .kept_reports import Reports
 from .kept_sources import Edit
 from .live_job import LiveJob, first_step
+from .lot_lines import usual
 from .replies import is_refused
 from .script import LONGEST, is_blank, opens_block, words_of
 from .script import END as END_LINE
@@ -84,6 +85,16 @@ class Commands:
             return self.turned(head)
         if head == "unlot" and len(words) == 2 and words[1] in self.region.sources.lots:
             return self.done(Edit({words[1]: None}))
+        if head == "lot" and is_usual(lines[0]):
+            edit = self.region.sources.lot(lines[0])
+            assert edit, lines[0]
+            reply, changes = self.done(edit)
+            if reply == OK:  # else the process without lots says what a town would
+                return reply, changes
+            return (
+                next((told for told in self.rules.ask([*lines, f"unlot {words[1]}"])[:1] if told != OK), reply),
+                changes,
+            )
         behind = {"lot": [f"unlot {name}" for name in words[1:2]], **dict.fromkeys(HEAD_EDITS, ["dump"])}
         reply, *more = self.rules.ask([*lines, *behind.get(head, [])])
         if reply != OK:
@@ -148,6 +159,12 @@ class Commands:
         if reply == OK and edit.head is not None:
             self.set_rules(edit.head)
         return reply, changes
+
+
+def is_usual(line: str) -> bool:
+    """Whether jobs are asked at once for a lot that is spelt so."""
+    lot = usual(line)
+    return lot is not None and lot.group(8) is None
 
 
 def as_bytes(reply: Reply) -> bytes:

@@ -29,6 +29,7 @@ class Job:
     def __init__(self, square: Square) -> None:
         self.square, self.parts = square, set()  # type: Square, Set[Part]
         self.live: Optional[LiveJob] = None
+        self.unsure: Set[str] = set()  # lots of which the process may know something else than its parts
 
     def own(self) -> Set[str]:
         return set().union(*(part.own for part in self.parts))
@@ -92,6 +93,9 @@ class Parts:
         """Gives a part other lots, or another job."""
         self.before.setdefault(part, Was(part.job, part.own, part.ring, part.told))
         ring = ring if own else set()
+        is_same = part.job is job
+        part.job.unsure |= (part.own ^ own) | (part.ring ^ ring) if is_same else part.own | part.ring
+        job.unsure |= set() if is_same else own | ring
         for name in part.own - own:
             if self.home.get(name) is part:
                 del self.home[name]
@@ -118,7 +122,13 @@ class Parts:
 
     def keep(self) -> None:
         """The edit is done."""
+        self.sure(self.changed_jobs())
         self.before.clear()
+
+    def sure(self, jobs: Iterable[Job]) -> None:
+        """The processes of some jobs know what their parts are."""
+        for job in jobs:
+            job.unsure = set()
 
     def take_back(self) -> None:
         """All parts are what they were before the edit. The lots have to be those of before, too."""

@@ -34,6 +34,7 @@ class KeptRegion:
         self.dressed: List[str] = []
         self.is_begun = False
         self.last: Set[Job] = set()  # the jobs that the last edit concerned
+        self.edited: Set[str] = set()  # the lots that it was of
         self.boxes: List[Boxes] = []  # one, once a rule asks
         self.parts = Parts({}, 0, 0)
         self.dealer = Dealer(self.parts, False, options)
@@ -90,7 +91,7 @@ class KeptRegion:
         if not self.is_begun:
             self.sources.put(edit)
             return "# ok", Changes()
-        back, was_checked = self.sources.back(edit), self.parts.is_checked
+        back, was_checked, self.edited = self.sources.back(edit), self.parts.is_checked, set(edit.lots)
         if edit.head is not None and asking(edit.head) and not self.dealer.asks:
             self.deal_for_asks()
         self.sources.put(edit)
@@ -163,6 +164,7 @@ class KeptRegion:
                 self.parts.drop(name)
         self.parts.take_back()
         self.finish(self.start(jobs), Changes())
+        self.parts.sure(jobs)
         self.close_empty()
 
     # ---- jobs
@@ -199,19 +201,29 @@ class KeptRegion:
     def steps(self, job: Job, lines: Sequence[str]) -> List[Step]:
         """What leads a job from what it has to what it is to have. A lot that comes from another job or goes there is taken away
         first, so that all its instances are told."""
-        wanted, own, head = self.wanted(job), job.own(), self.sources.head
-        live = job.live
+        live, own, head = job.live, job.own(), self.sources.head
         if live is None:
+            wanted = self.wanted(job)
             return [first_step(self.dressed, head, wanted, own)] if wanted else []
         if live.head != head:
-            return [
-                Step(list(lines), head, live.lots, live.own) if lines else Step(city(head, wanted), head, wanted, own)
-            ]
-        kept = {
-            name: line for name, line in live.lots.items() if name in wanted and (name in own) == (name in live.own)
-        }
-        out = [f"unlot {name}" for name in live.lots if name not in kept]
-        new = [line for name, line in wanted.items() if kept.get(name) != line]
+            if lines:
+                return [Step(list(lines), head, live.lots, live.own)]
+            wanted = self.wanted(job)
+            return [Step(city(head, wanted), head, wanted, own)]
+        return self.steps_of(live, job.unsure | self.edited, job.has(), own)
+
+    def steps_of(self, live: LiveJob, names: Set[str], has: Set[str], own: Set[str]) -> List[Step]:
+        """The same where the head stays, and only some lots may differ."""
+        kept, wanted = dict(live.lots), dict(live.lots)
+        out, new = [], []
+        for name in sorted(names):
+            line = self.sources.lots[name].line if name in has else ""
+            if name in kept and (not line or (name in own) != (name in live.own)):
+                out.append(f"unlot {name}")
+                del kept[name], wanted[name]
+            if line and kept.get(name) != line:
+                new.append(line)
+                wanted[name] = line
         return [live.to(out, kept, live.own)] * bool(out) + [live.to(new, wanted, own)] * bool(new)
 
     def wanted(self, job: Job) -> Dict[str, str]:

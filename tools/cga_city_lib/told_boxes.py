@@ -101,6 +101,8 @@ class Boxes:
                 running.append((self.fed(asked.lots), asked))
                 if len(running) >= self.workers:
                     yield self.read(*running.popleft())
+            if parts:
+                self.prepare()  # while the runs go on
             while running:
                 yield self.read(*running.popleft())
         finally:

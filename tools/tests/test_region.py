@@ -112,7 +112,7 @@ class Kept(unittest.TestCase):
 
     def test_random_edits_are_told_as_one_process_tells_them(self):
         for name in KINDS:
-            compared(name, 30, 3)
+            compared(name, 60, 3)
 
     def test_processes_that_are_killed_in_the_midst_of_edits(self):
         """Each dies while an edit is worked, and none of them is lost."""
