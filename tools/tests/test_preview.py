@@ -21,6 +21,8 @@ sys.path.insert(0, str(TESTS))
 from answers import State  # noqa: E402
 from in_process import begun, called  # noqa: E402
 from cga_city_lib import watch  # noqa: E402
+from cga_city_lib.preview_terminal import tell_on  # noqa: E402
+from cga_city_lib.shown import Shown  # noqa: E402
 
 RULES = 'rules\nattr h = 3\nPRIORITY 1:\n1: house -> S(1r, h, 1r) I("cube")\n2: shed -> I("gable")\nend\n'
 PATIENCE = 120  # seconds for what takes none on a machine with nothing else to do
@@ -105,6 +107,31 @@ class Preview(unittest.TestCase):
         """Saves, and follows the page; what it was told, without the order."""
         self.save(text)
         return sorted(self.page.until(self.page.head["save"] + 1))
+
+
+class Terminal(unittest.TestCase):
+    """What is written where standard error is a terminal."""
+
+    def test_all_that_the_page_says(self):
+        shown, (ours, theirs) = Shown("town.cga"), os.openpty()
+        terminal = open(theirs, "w", encoding="utf-8")
+        tell_on(terminal, shown)
+        with open(ours, encoding="utf-8") as read, terminal:
+            for said, lines in (
+                (
+                    "town.cga:8:9: Unexpected\ntown.cga:9:9: \x1b[0m",
+                    ["town.cga:8:9: Unexpected", "town.cga:9:9: \\x1b[0m"],
+                ),
+                ("", ["town.cga: nothing is wrong any more"]),
+            ):
+                shown.put(said=said)
+                self.assertEqual([read.readline().rstrip() for _ in lines], lines)
+
+    def test_a_file_gets_nothing(self):
+        with tempfile.TemporaryFile("w+") as file:
+            tell_on(file, shown := Shown("town.cga"))
+            shown.put(said="town.cga:8:9: Unexpected")
+            self.assertEqual(file.tell(), 0)
 
 
 class Live(Preview):
