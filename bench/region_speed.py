@@ -11,6 +11,7 @@ is a word of those that --help lists; without one all rows are printed, which ta
 import argparse
 import math
 import os
+import re
 import shutil
 import sys
 import tempfile
@@ -29,9 +30,16 @@ CONDITION = ' : Scope.occ("noparent") == "none"'
 
 Region = namedtuple("Region", "told lots form asks words steps")
 ALL = "cut jobs check join tiles".split()
+RINGS = ["--rings", "2", "--lots", "1000"]
+
+
+def edited(lots, told, form, words=()):
+    """A region of which one lot is edited once all jobs were run: two rows."""
+    return Region(f"{lots:,} lots that ask{told}", lots, form, True, list(words), ALL[:3])
+
+
 REGIONS = {
     "asking": Region("36,000 lots that ask", 36000, "square", True, [], ALL),
-    "edit": Region("one lot's edit in the first region", 36000, "edit", True, [], ["cut", "jobs", "check"]),
     "asking-long": Region("36,000 lots that ask, long", 36000, "long", True, [], ALL),
     "plain": Region("36,000 lots, no rule asks", 36000, "square", False, [], ALL),
     "plain-long": Region("36,000 lots, no rule asks, long", 36000, "long", False, [], ALL),
@@ -48,16 +56,19 @@ REGIONS = {
         ALL,
     ),
     "large-wall": Region(
-        "a wall of 99,856 lots that ask, with 2 rings and 1,000 lots a job",
-        99856,
-        "wall",
-        True,
-        ["--rings", "2", "--lots", "1000"],
-        ALL,
+        "a wall of 99,856 lots that ask, with 2 rings and 1,000 lots a job", 99856, "wall", True, RINGS, ALL
     ),
     "turned": Region("4,000 lots that ask, at 90 angles", 4000, "turned", True, [], ALL),
-    "turned-edit": Region("one lot's edit there", 4000, "turned", True, [], ["cut", "jobs", "check"]),
-    "million": Region("1,000,000 lots that ask", 1000000, "square", True, [], ["cut", "jobs"]),
+    "turned-edit": edited(4000, ", at 90 angles", "turned"),
+    "edit": edited(36000, "", "square"),
+    "long-edit": edited(36000, ", long", "long"),
+    "wall-edit": edited(36100, ", a wall, 2 rings", "wall", RINGS),
+    "large-edit": edited(252000, "", "square"),
+    "large-long-edit": edited(252000, ", long", "long"),
+    "large-wall-edit": edited(252004, ", a wall, 2 rings", "wall", RINGS),
+    "million-edit": edited(1000000, "", "square"),
+    "million-long-edit": edited(1000000, ", long", "long"),
+    "million-wall-edit": edited(1000000, ", a wall, 2 rings", "wall", RINGS),
 }
 
 
@@ -134,36 +145,27 @@ def measured(region, script, folder, program, workers):
 
 
 def row(name, top, program, workers):
+    """Prints the row of a region; where one of its lots is edited, that of the edit, too."""
     region, script, folder = REGIONS[name], top / f"{name}.cga", top / name
     write_script(region, script)
+    told(region.told, *measured(region, script, folder, program, workers), folder)
     if name.endswith("edit"):
-        measured(region._replace(steps=ALL[:3]), script, folder, program, workers)
         write_script(region, script, seeds={region.lots // 2})
-    spent, said = measured(region, script, folder, program, workers)
+        told("one lot's edit there", *measured(region, script, folder, program, workers), folder)
+    shutil.rmtree(folder)
+    script.unlink()
+
+
+def told(name, spent, said, folder):
     less = spent["check"].seconds if "check" in spent else 0  # a join and tiles begin with a check
     cells = [f"{spent[step].seconds - (less if step in ALL[3:] else 0):.1f}" if step in spent else "" for step in ALL]
     town = folder / "town.obj"
-    size = f"{town.stat().st_size / 10 ** 6:,.0f} MB" if town.exists() else ""
+    cells.append(f"{town.stat().st_size / 10 ** 6:,.0f} MB" if town.exists() else "")
     memory = max(spent[step].memory for step in spent if step != "jobs") / 1024
-    number = "1" if name.endswith("edit") else said.split(" jobs")[0].split()[-1]
-    print(
-        " | ".join(
-            [
-                "",
-                region.told,
-                f"{int(number):,}",
-                *cells,
-                size,
-                f"{memory:,.0f} MB",
-                f"{spent['jobs'].memory / 1024:,.0f} MB",
-                "",
-            ]
-        ).strip()
-        + (f" ({said.split(': ')[0]})" if said.startswith("more") else ""),
-        flush=True,
-    )
-    shutil.rmtree(folder)
-    script.unlink()
+    jobs = int(re.search(r"(\d+) to run" if name.startswith("one") else r"(\d+) jobs", said).group(1))
+    cells += [f"{memory:,.0f} MB", f"{spent['jobs'].memory / 1024:,.0f} MB"]
+    more = f" ({said.split(': ')[0]})" if said.startswith("more") else ""
+    print(f"| {name} | {jobs:,} | " + " | ".join(cells) + " |" + more, flush=True)
 
 
 def main():
