@@ -17,7 +17,7 @@ from .script_words import ScriptWords
 KEPT = (kept_views, panel_words, variants)  # what a script's comments keep for its page
 GONE = "the file is gone; the town is that of its last save"
 EMPTY = "the file is empty, so there is no town"
-EACH = 0.02  # seconds between two looks at the file
+EACH = 0.01  # seconds between two looks at the file, and for which it has to stay as it is
 AWAY = 0.5  # seconds for which an editor that saves may take the file away
 
 
@@ -59,7 +59,7 @@ class Watch:
             while True:  # whoever writes may be in the middle of it
                 with open(self.path, "rb") as file:
                     data = file.read()
-                time.sleep(EACH / 2)
+                time.sleep(EACH)
                 seen, was = self.look(), seen
                 if seen == was:
                     self.seen, self.away = seen, None
