@@ -44,6 +44,7 @@ WATCH = """(() => {
     Object.assign(noted, {drawn: performance.now(), is_wanted: false});
   };
   window.drawn = () => gl.readPixels(0, 0, 1, 1, gl.RGBA, gl.UNSIGNED_BYTE, new Uint8Array(4)); // waits until it is drawn
+  is_asked = false; // a picture that was asked for before isn't noted
   ask_draw();
 })()"""
 FRAME = "(() => { drawn(); const from = performance.now(); draw(); drawn(); return performance.now() - from; })()"

@@ -5,7 +5,8 @@ usage: bench/save_speed.py [--program PATH] [--page PATH] LOTS ..
 
 Towns and saves are those of bench/page_speed.py, each save once. Told are the processor seconds of the preview's own process
 and of its program, which hardly go by what else the machine does, the bytes of the answer, and the time by the clock until
-it was there. Behind them ten edits of all show what memory is kept. With --page the tables go into that page.
+it was there. Behind them ten edits of all show what memory is kept. With --page each row goes into that page as soon as it is
+measured.
 """
 import argparse
 import json
@@ -16,8 +17,9 @@ import subprocess
 import sys
 import tempfile
 import time
+from itertools import chain
 from pathlib import Path
-from typing import Any, Iterator, List, Optional, Sequence, Tuple
+from typing import Any, Iterator, List, Optional, Tuple
 from urllib.request import urlopen
 
 TOP = Path(__file__).resolve().parent.parent
@@ -27,7 +29,8 @@ import page_speed  # noqa: E402
 import tables  # noqa: E402
 from page_speed import CHANGES, HALVES, TICK, attribute_of_all  # noqa: E402
 
-Row = Sequence[str]
+SAVES = ["Lots", "What", "Python", "Program", "Bytes sent", "By the clock"]
+MEMORY = ["Lots", "Preview behind one edit of all", "Behind ten"]
 
 
 def stat_of(pid: Any) -> Tuple[int, float, float]:
@@ -112,16 +115,17 @@ def kept(preview: Any, reader: Reader, town: Any) -> Iterator[str]:
             yield f"{megabytes(preview.pid):.0f} MB"
 
 
-def measure(program: Optional[str], folder: str, lots: int) -> Tuple[List[Row], Row]:
-    """The rows of a town's saves, and that of its memory."""
+def measure(program: Optional[str], folder: str, lots: int, page: Optional[str]) -> None:
+    """Tells the rows of a town's saves, and that of its memory."""
     town = page_speed.Town(Path(folder) / f"town{lots}.cga", lots)
     town.save()
     from_ = time.monotonic()
     preview, reader = begun(program, town)
     try:
-        rows = [[f"{lots:,}", "the first town", *cells(preview, reader, 1, (0, 0), from_)]]
-        rows += [[f"{lots:,}", name, *told] for name, told in saves(preview, reader, town)]
-        return rows, [f"{lots:,}", *kept(preview, reader, town)]
+        first = [("the first town", cells(preview, reader, 1, (0, 0), from_))]
+        for name, told in chain(first, saves(preview, reader, town)):
+            tables.tell_row(SAVES, [f"{lots:,}", name, *told], 2, page)
+        tables.tell_row(MEMORY, [f"{lots:,}", *kept(preview, reader, town)], 1, page)
     finally:
         preview.terminate()
         preview.wait()
@@ -136,10 +140,8 @@ def main() -> None:
     parser.add_argument("lots", type=int, nargs="+")
     told = parser.parse_args()
     with tempfile.TemporaryDirectory() as folder:
-        rows, memories = zip(*(measure(told.program, folder, lots) for lots in told.lots))
-    head = ["Lots", "What", "Python", "Program", "Bytes sent", "By the clock"]
-    tables.tell(tables.table(head, (row for some in rows for row in some)), told.page)
-    tables.tell(tables.table(["Lots", "Preview behind one edit of all", "Behind ten"], memories), told.page)
+        for lots in told.lots:
+            measure(told.program, folder, lots, told.page)
 
 
 if __name__ == "__main__":

@@ -45,6 +45,7 @@ def handler(shown, watch, asks):
 
     class Handler(BaseHTTPRequestHandler):
         protocol_version = "HTTP/1.1"
+        disable_nagle_algorithm = True  # else the end of a short answer waits 40 ms for an acknowledgement
 
         def is_own(self, name):
             """Whether a header names this server; a page of another name that leads to this machine is refused."""
