@@ -35,6 +35,32 @@ def words_of(data):
     return told if isinstance(told, dict) and all(isinstance(value, str) for value in told.values()) else None
 
 
+class OfThisMachine(BaseHTTPRequestHandler):
+    """Replies to pages of this machine alone."""
+
+    protocol_version = "HTTP/1.1"
+    disable_nagle_algorithm = True  # else the end of a short answer waits 40 ms for an acknowledgement
+
+    def is_own(self, name):
+        """Whether a header names this server; a page of another name that leads to this machine is refused."""
+        port, told = self.server.server_address[1], self.headers[name] or ""
+        return told.split("//")[-1] in (f"127.0.0.1:{port}", f"localhost:{port}")
+
+    def answer(self, status, body, kind="text/plain"):
+        try:
+            self.send_response(status)
+            self.send_header("Content-Type", kind)
+            self.send_header("Content-Length", str(len(body)))
+            self.send_header("Cache-Control", "no-store")
+            self.end_headers()
+            self.wfile.write(body)
+        except ConnectionError:
+            self.close_connection = True  # the page is gone or was loaded anew
+
+    def log_message(self, *_):
+        pass
+
+
 def handler(shown, watch, asks):
     # each with what reads the words of its address, and what does them; what it gives is told
     posts = {
@@ -43,15 +69,7 @@ def handler(shown, watch, asks):
         **{f"/{ask.__name__}": (words_of, ask) for ask in (asks.keep, asks.compare, asks.explain, asks.open)},
     }
 
-    class Handler(BaseHTTPRequestHandler):
-        protocol_version = "HTTP/1.1"
-        disable_nagle_algorithm = True  # else the end of a short answer waits 40 ms for an acknowledgement
-
-        def is_own(self, name):
-            """Whether a header names this server; a page of another name that leads to this machine is refused."""
-            port, told = self.server.server_address[1], self.headers[name] or ""
-            return told.split("//")[-1] in (f"127.0.0.1:{port}", f"localhost:{port}")
-
+    class Handler(OfThisMachine):
         def do_GET(self):
             name, _, stamp = self.path.partition("?")
             if not self.is_own("Host") or name not in ("/", "/state"):
@@ -76,20 +94,6 @@ def handler(shown, watch, asks):
                 return self.answer(409, str(fault).encode(), "text/plain; charset=utf-8")
             self.answer(200, b"" if given is None else json.dumps(given).encode(), "application/json")
 
-        def answer(self, status, body, kind="text/plain"):
-            try:
-                self.send_response(status)
-                self.send_header("Content-Type", kind)
-                self.send_header("Content-Length", str(len(body)))
-                self.send_header("Cache-Control", "no-store")
-                self.end_headers()
-                self.wfile.write(body)
-            except ConnectionError:
-                self.close_connection = True  # the page is gone or was loaded anew
-
-        def log_message(self, *_):
-            pass
-
     return Handler
 
 
@@ -99,10 +103,14 @@ class Server(ThreadingHTTPServer):
 
 
 def server(port, shown, watch, asks):
+    return server_of(port, handler(shown, watch, asks))
+
+
+def server_of(port, replies):
     """A server at that port, or at 8017 or else a free one."""
     for wanted in [port] if port is not None else [8017, 0]:
         try:
-            return Server(("127.0.0.1", wanted), handler(shown, watch, asks))
+            return Server(("127.0.0.1", wanted), replies)
         except OSError as fault:
             problem = fault.strerror
     raise Refused(f"port {port}: {problem}")

@@ -16,6 +16,8 @@ from regions import RULES, STAND_IN, RegionTest, whole  # noqa: E402
 
 from cga_city_lib import page as pages  # noqa: E402
 from cga_city_lib.obj import Town  # noqa: E402
+from cga_city_lib.region_page import RegionTiles, region_handler  # noqa: E402
+from cga_city_lib.serve import server_of  # noqa: E402
 
 if not CHROMIUM:
     print(
@@ -157,6 +159,51 @@ class InBrowser(Pages):
         self.look(90001, 0.4, 70001, 5)
         self.assertEqual(self.browser.run("[town.offset, tiles.drawn.length]"), [[90001, 0, 70001], 1])
         self.assertGreater(self.colours(), 5000)
+
+    def follow(self):
+        """The page of the region's folder, as a preview shows it, and the tiles that it asks for."""
+        asked, tiles = [], RegionTiles(self.folder)
+
+        class Handler(region_handler(tiles)):
+            def do_GET(self):
+                asked.append(self.path)
+                super().do_GET()
+
+        server = server_of(0, Handler)
+        self.addCleanup(server.server_close)
+        self.addCleanup(server.shutdown)
+        threading.Thread(target=server.serve_forever, daemon=True).start()
+        self.browser.open(f"http://127.0.0.1:{server.server_address[1]}/")
+        self.browser.wait(IS_STILL)
+        return asked
+
+    def test_a_region_that_is_edited_changes_the_tiles_that_are_concerned(self):
+        """A lot gets more cubes, goes, and comes back; each time one tile is another one, and all others stay."""
+        town = lots(6)
+        self.tiles([*RULES, *town])
+        asked = self.follow()
+        known = self.browser.run("tiles.number")
+        before = {name for name in asked if name.endswith(".glb")}
+        self.assertEqual(len(before), known)
+        part = "tiles.drawn.map(tile => tile.parts[0].vertices)"
+        self.browser.run(f"window.kept = new Set({part})")
+        for lines in ([town[0].replace(" 1 0 ", " 3 0 "), *town[1:]], town[1:], town):
+            self.tiles([*RULES, *lines])
+            asked.clear()
+            self.browser.wait("box_of('notice').textContent !== ''")
+            self.assertEqual(self.browser.run("box_of('notice').textContent"), f"1 of {known} tiles are new")
+            self.browser.wait(IS_STILL)
+            self.browser.run("notice('')")
+            self.assertLessEqual(len([name for name in asked if name.endswith(".glb")]), 1)
+            self.assertEqual(self.seen(), [[0], known])
+            self.assertEqual(self.browser.run(f"{part}.filter(one => !kept.has(one)).length"), 1)
+
+    def test_the_page_of_a_folder_tells_no_other_file(self):
+        self.tiles([*RULES, *lots(2)])
+        self.follow()
+        for name in ("plan.json", "tiles/../plan.json", "tiles/", "state/x", "set"):
+            self.assertEqual(self.browser.run(f"fetch('/{name}').then(answer => answer.status)"), 404, name)
+        self.assertEqual(called("preview", self.top)[0], 1)
 
     def test_turned_tiles_are_drawn_where_they_stand(self):
         """The cube of the second lot is 1 by 1 from (0, 10) in a frame that is turned by 30 degrees."""

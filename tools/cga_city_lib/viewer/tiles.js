@@ -82,10 +82,32 @@ class Tiles {
     for (const tile of old) {
       if (triangles < MOST_TRIANGLES) return;
       triangles -= tile.triangles;
-      tile.parts.forEach(forget_part);
-      Object.assign(tile, {state: 'far', parts: null, triangles: 0});
-      this.loaded.delete(tile);
+      this.forget(tile);
     }
+  }
+  forget(tile) {
+    if (tile.parts) tile.parts.forEach(forget_part);
+    Object.assign(tile, {state: 'far', parts: null, triangles: 0});
+    this.loaded.delete(tile);
+  }
+  // Takes another tree, in which tiles of the same name stay as they are. Tells how many are new.
+  change(root) {
+    const old = new Map(), key = tile => [tile.address, ...tile.matrix.slice(0, 2)].join(' ');
+    const note = tile => [...(tile.address ? [tile] : []), ...tile.children.flatMap(note)];
+    for (const tile of note(this.root)) old.set(key(tile), tile);
+    const kept = told => {
+      const {depth, error, origin, matrix, low, high} = told, was = old.get(key(told));
+      old.delete(key(told));
+      const tile = was ? Object.assign(was, {depth, error, origin, matrix, low, high}) : told;
+      if (tile.state === 'lost') tile.state = 'far';
+      return Object.assign(tile, {children: told.children.map(kept)});
+    };
+    const known = old.size;
+    this.root = kept(root);
+    this.number = this.root.count();
+    const fresh = this.number - (known - old.size);
+    old.forEach(tile => this.forget(tile));
+    return fresh;
   }
   triangles() {
     return [...this.loaded].reduce((sum, tile) => sum + tile.triangles, 0);
@@ -144,13 +166,36 @@ class Tiles {
   }
 }
 
-async function open_tiles({title, tileset}) {
+// Asks the preview whether the set of tiles is another one, which it tells as soon as it is.
+async function follow_tiles(base) {
+  for (let stamp = '', is_lost = false;;) {
+    try {
+      const now = await (await fetch('state?' + stamp)).text();
+      if (stamp && now !== stamp || is_lost) {
+        const fresh = tiles.change(new Tile((await (await fetch(base)).json()).root, base, STILL));
+        [town.low, town.high] = [tiles.root.low, tiles.root.high].map(at => minus(at, town.offset));
+        is_shadow_old = true;
+        tell('');
+        notice(`${fresh} of ${tiles.number} tiles are new`);
+        ask_draw();
+      }
+      [stamp, is_lost] = [now, false];
+    } catch (fault) {
+      tell('the preview has ended');
+      await new Promise(done => setTimeout(done, 1000));
+      is_lost = true;
+    }
+  }
+}
+
+async function open_tiles({title, tileset, follows}) {
   document.title = title;
   try {
     const base = new URL(tileset, location.href), told = await (await fetch(base)).json(), root = new Tile(told.root, base, STILL);
     town.offset = root.low.map(Math.floor);
     [town.low, town.high] = [root.low, root.high].map(at => minus(at, town.offset));
     tiles = new Tiles(root);
+    if (follows) follow_tiles(base);
     look_at(town);
     sums();
     ask_draw();
