@@ -54,7 +54,7 @@ module _ {N A F P : Type 0} (derivation : Derivation N A F P) (laws : IsDerivati
     lot_own : (n m : N) → derivation.lot m ≡ derivation.lot n → IsOwn n → IsOwn m
     lot_own n m e o = ap (is_lot_of derivation job.own) e ∙ o
 
-    own_chain : (n : N) → IsOwn n → chain_in derivation job.members n ≡ chain_in derivation zs n
+    pub own_chain : (n : N) → IsOwn n → chain_in derivation job.members n ≡ chain_in derivation zs n
     own_chain n o = chain_same derivation job.members zs n apart (λ m k e h. into m k (lot_own n m e o) h) (λ m k e h. back m k (lot_own n m e o) h)
 
     module _ (alike : SeesAlike derivation jobs job) where

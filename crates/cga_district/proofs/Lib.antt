@@ -1,13 +1,14 @@
 mod Lists
-mod Districts
+mod Turns
 mod Owned
 mod Halos
-mod Turns
+mod Districts
 mod Alike
 mod Towns
 mod Parts
 mod Jobs
 mod Hulls
+mod Reordered
 mod Steps
 mod Told
 pub mod Door

@@ -1,5 +1,5 @@
 -- Lists that stand one behind the other, and lists of what passes a test.
-use Rattle.std.proofs.Common.{◌≡◌, ℕ, zero, suc, ◌+◌, List, [], ◌∷◌, ◌++◌, length, filter, Bool, true, false, cond, sym, ap, ◌∙◌, subst, inl, inr, Some, arith}
+use Rattle.std.proofs.Common.{◌≡◌, ℕ, zero, suc, ◌+◌, List, [], ◌∷◌, ◌++◌, length, filter, Bool, true, false, cond, refl, sym, ap, ◌∙◌, subst, inl, inr, Some, arith}
 use Rattle.std.specs.Prelude.{slice_get}
 use Rattle.std.proofs.lemmas.Bool.{cases_Bool as either}
 use Rattle.cga_order.specs.World.{Has}
@@ -37,3 +37,8 @@ module _ {N F P : Type 0} (test : N → Bool) where
     ]
     | inr f ↦ let w = filter-Has xs n k (subst (λ l. Has l n k) (ap (λ b. cond b (x ∷ passing xs) (passing xs)) f) h) in (inr w.0, w.1)
   ]
+
+  -- where all pass, none is left out
+  pub filter_all : (xs : List (Placed N F P)) → ((n : N) (k : Kind F P) → Has xs n k → test n ≡ true) → passing xs ≡ xs
+  filter_all [] h = refl
+  filter_all (x ∷ xs) h = ap (λ b. cond b (x ∷ passing xs) (passing xs)) (h x.shape x.kind (inl (refl, refl))) ∙ ap (λ l. x ∷ l) (filter_all xs (λ n k g. h n k (inr g)))

@@ -9,10 +9,10 @@ use Rattle.cga_shape.specs.declared.sources.Sources.{Sources}
 use Rattle.cga_derivation.specs.Derivation.{IsDerived, reached}
 use Rattle.cga_expand.specs.Children.{Member}
 use Rattle.cga_expand.specs.Derivation.{derivation_of}
-use Rattle.cga_district.specs.Towns.{with_lots, AreLots, NoneAsks, MeetsNone}
+use Rattle.cga_district.specs.Towns.{with_lots, AreLots, LotsAreApart, NoneAsks, MeetsNone}
 use Rattle.cga_district.specs.Parts.{joined, total, ArePartsOf, AreDerived, MeetsNoOther, AllMeetNone, PartsAreApart}
 use Rattle.cga_order.proofs.Door.{Among-left, Among-right}
-use Rattle.cga_district.proofs.Towns.{differ_right, towns}
+use Rattle.cga_district.proofs.Towns.{differ_right}
 
 -- a town without lots
 empty : (lots : List Lot) → ((x : Lot) → Among x lots → ⊥) → lots ≡ []
@@ -67,16 +67,16 @@ behind grammar xs lists (inl quiet) = inl quiet
 behind grammar xs lists (inr far) = inr far.1
 
 -- any number of districts that are apart are derived apart
-pub parts_are_apart : PartsAreApart
-parts_are_apart sources differ [] all [] derived far =
+pub parts_are_apart : LotsAreApart → PartsAreApart
+parts_are_apart towns sources differ [] all [] derived far =
     let none = empty sources.lots (λ x h. (all.same x).0 h) in
     ([], derived-empty sources none, (λ n k. ((λ h. h), (λ h. h))), refl)
-parts_are_apart sources differ [] all (xs ∷ lists) derived far = absurd derived
-parts_are_apart sources differ (part ∷ parts) all [] derived far = absurd derived
-parts_are_apart sources differ (part ∷ parts) all (xs ∷ lists) derived far =
+parts_are_apart towns sources differ [] all (xs ∷ lists) derived far = absurd derived
+parts_are_apart towns sources differ (part ∷ parts) all [] derived far = absurd derived
+parts_are_apart towns sources differ (part ∷ parts) all (xs ∷ lists) derived far =
     let rest = differ_right part (joined parts) all.differ in
     let own : ArePartsOf (with_lots sources (joined parts)) parts = record { same = λ x. ((λ h. h), (λ h. h)); differ = rest } in
-    let others : Whole (with_lots sources (joined parts)) lists = parts_are_apart (with_lots sources (joined parts)) rest parts own lists (with_parts parts lists derived.1) (behind sources.grammar xs lists far) in
+    let others : Whole (with_lots sources (joined parts)) lists = parts_are_apart towns (with_lots sources (joined parts)) rest parts own lists (with_parts parts lists derived.1) (behind sources.grammar xs lists far) in
     let lots : AreLots sources part (joined parts) = record {
       each = λ x h. Among-append part (joined parts) x ((all.same x).0 h);
       left_lots = λ x h. (all.same x).1 (Among-left part (joined parts) x h);

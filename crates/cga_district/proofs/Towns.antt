@@ -1,5 +1,7 @@
 -- Districts of a town are derived apart.
 use Rattle.std.proofs.Common.{◌≡◌, ◌+◌, List, [], ◌∷◌, ◌++◌, length, Bool, true, false, refl, sym, ap, ◌∙◌, subst, ◌⊎◌, inl, inr, Result, Ok, Err, arith, not, ◌&&◌, ◌||◌}
+use Rattle.cga_word.specs.declared.answers.Answers.{Answers}
+use Rattle.cga_word.specs.declared.primitive.Primitive.{Primitive}
 use Rattle.cga_word.specs.declared.target.Target.{Target}
 use Rattle.cga_word.specs.declared.target.Target.TheVariants.{Noparent, Active}
 use Rattle.cga_frame.specs.Box.{box_of, meets}
@@ -10,14 +12,14 @@ use Rattle.cga_order.proofs.Door.{Among-index, slice_get-within}
 use Rattle.cga_rule.specs.declared.grammar.Grammar.{Grammar}
 use Rattle.cga_shape.specs.declared.lot.Lot.{Lot}
 use Rattle.cga_shape.specs.declared.shape.Shape.{Shape}
+use Rattle.cga_shape.specs.declared.shape_fault.ShapeFault.{ShapeFault}
 use Rattle.cga_shape.specs.declared.sources.Sources.{Sources}
 use Rattle.cga_shape.specs.Root.{root_of}
 use Rattle.cga_expand.specs.Asked.{asks_for, on_path, sees}
 use Rattle.cga_expand.specs.Children.{Member}
 use Rattle.cga_expand.specs.Derivation.{derivation_of, NamesDiffer, roots_of, made}
-use Rattle.cga_district.specs.Districts.{AreParts, SeesNone}
+use Rattle.cga_district.specs.Districts.{AreParts, DistrictsAreApart, SeesNone}
 use Rattle.cga_district.specs.Towns.{with_lots, AreLots, NoneAsks, MeetsNone, LotsAreApart}
-use Rattle.cga_district.proofs.Districts.{districts}
 use Rattle.cga_district.proofs.Lists.{get-right}
 use Rattle.std.proofs.lemmas.Bool.{or_cases as either_asks}
 use Rattle.cga_fraction.proofs.Door.{slice_get-append_left}
@@ -104,9 +106,9 @@ module _ (sources : Sources) (differ : NamesDiffer sources.lots) (left right : L
   ])
 
 -- two districts that are apart are derived apart
-pub towns : LotsAreApart
-towns sources differ left right lots xs ys ends_left ends_right far =
-    districts (derivation_of sources) (sources_are_derivations sources differ) (roots_of left) (roots_of right) (parts sources differ left right lots)
+pub towns : DistrictsAreApart Shape Answers ShapeFault Primitive → LotsAreApart
+towns apart sources differ left right lots xs ys ends_left ends_right far =
+    apart (derivation_of sources) (sources_are_derivations sources differ) (roots_of left) (roots_of right) (parts sources differ left right lots)
     (sources_are_derivations (with_lots sources left) (differ_left left right lots.differ))
     (sources_are_derivations (with_lots sources right) (differ_right left right lots.differ))
     xs ys ends_left ends_right

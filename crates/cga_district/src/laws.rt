@@ -16,17 +16,23 @@ use cga_word::{Answers, Primitive};
 /// the members that the whole ends with.
 pub fn districts_are_apart<N, A, F, P>()
     ensures { DistrictsAreApart N A F P }
-{}
+{
+    own_members_are_the_whole::<N, A, F, P>();
+}
 
 /// So are two parts of a town's lots, where no rule asks, or no box of a shape that asks meets one of the other part.
 pub fn lots_are_apart()
     ensures { LotsAreApart }
-{}
+{
+    districts_are_apart::<Shape, Answers, ShapeFault, Primitive>();
+}
 
 /// And so is any number of parts.
 pub fn parts_are_apart()
     ensures { PartsAreApart }
-{}
+{
+    lots_are_apart();
+}
 
 /// Parts are apart where no box of a lot of one touches that of a lot of another, and the box of each lot holds those
 /// of all its shapes.

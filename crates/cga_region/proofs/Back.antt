@@ -17,7 +17,7 @@ use Rattle.cga_region.specs.Changes.{both, Course, told_by, told_by_all}
 use Rattle.cga_region.specs.Kept.{IsKept}
 use Rattle.cga_region.proofs.Jobs.{by_settled, kept_settled}
 use Rattle.cga_region.proofs.Lots.{places_differ, tell_alike}
-use Rattle.cga_region.proofs.Reordered.{reordered}
+use Rattle.cga_district.proofs.Door.{reordered}
 
 -- ---- what is told
 
@@ -51,11 +51,11 @@ module _ (old back : Sources) (are : AreBack old back) where
   with_same : (lots : List Lot) → with_lots back lots ≡ with_lots old lots
   with_same lots = λ i. record { grammar = are.grammar i; lots = lots; mode = are.mode i }
 
-  module _ (jobs backs : List LotJob) (kept : IsKept old jobs) (all : AllBack jobs backs) (again : AreJobsOf back backs) where
+  module _ (town : JobsAreTheTown) (jobs backs : List LotJob) (kept : IsKept old jobs) (all : AllBack jobs backs) (again : AreJobsOf back backs) where
     same_members : (was job : LotJob) → Among was jobs → Among job backs → IsBack was job
         → SameMembers was.members job.members
     same_members was job w j is =
-        reordered old (lots_of was) (lots_of job) (kept.are.differ was w) (again.differ job j) (same_lots_of was job is) was.members job.members (kept.are.derived was w)
+        reordered town old (lots_of was) (lots_of job) (kept.are.differ was w) (again.differ job j) (same_lots_of was job is) was.members job.members (kept.are.derived was w)
         (subst (λ (s : Sources). IsDerived (derivation_of s) job.members) (with_same (lots_of job)) (again.derived job j))
 
     settled_still : AreSettled old.grammar jobs → AreSettled old.grammar backs
@@ -79,10 +79,10 @@ module _ (old back : Sources) (are : AreBack old back) where
 pub back_by_jobs : JobsAreTheTown → ToldIsSettled → BackByJobs
 back_by_jobs town told old back are jobs backs kept all again =
     let settled = kept_settled told old jobs kept in
-    let still : AreSettled back.grammar backs = subst (λ (g : Grammar). AreSettled g backs) (sym are.grammar) (settled_still old back are jobs backs kept all again settled) in
+    let still : AreSettled back.grammar backs = subst (λ (g : Grammar). AreSettled g backs) (sym are.grammar) (settled_still old back are town jobs backs kept all again settled) in
     let one = by_settled town old kept.names jobs kept.are settled in
     let two = by_settled town back are.names backs again still in
-    let same = reordered old old.lots back.lots kept.names are.names (λ x. ((are.lots x).1, (are.lots x).0)) one.0 two.0 one.1
+    let same = reordered town old old.lots back.lots kept.names are.names (λ x. ((are.lots x).1, (are.lots x).0)) one.0 two.0 one.1
     (subst (λ (s : Sources). IsDerived (derivation_of s) two.0) (with_same old back are back.lots) two.1) in (
       still,
       (

@@ -35,7 +35,7 @@ use Rattle.cga_region.proofs.Bills.{both, first, nothing, once_lots, same_drawn,
 use Rattle.cga_region.proofs.Changes.{count_filter}
 use Rattle.cga_region.proofs.Jobs.{by_settled}
 use Rattle.cga_region.proofs.Lots.{places_differ, tell_alike}
-use Rattle.cga_region.proofs.Reordered.{reordered}
+use Rattle.cga_district.proofs.Door.{reordered}
 
 -- ---- counts
 
@@ -209,7 +209,7 @@ module _ (town : JobsAreTheTown) (sources : Sources) (parts : List LotJob) (own_
   of_one only are part h x own =
       let is : only ≡ part = elim (subst (Among part) are h) [ inl e ↦ e | inr r ↦ absurd r ] in
       let lots : all_of parts ≡ lots_of part = ap all_of are ∙ (append-nil (lots_of only) ∙ ap lots_of is) in
-      let same = reordered sources (lots_of part) draws.lots (differ part h) draws.differ (λ y. subst (λ (l : List Lot). Among y draws.lots ↔ Among y l) lots (draws.same y)) part.members draws.members (derived part h) draws.derived in
+      let same = reordered town sources (lots_of part) draws.lots (differ part h) draws.differ (λ y. subst (λ (l : List Lot). Among y draws.lots ↔ Among y l) lots (draws.same y)) part.members draws.members (derived part h) draws.derived in
       tell_alike x.name draws.members part.members (places_differ Town draws.differ draws.members draws.derived)
       (places_differ (with_lots sources (lots_of part)) (differ part h) part.members (derived part h)) (λ s k i e. (same s k).1 i) (λ s k i e. (same s k).0 i)
 

@@ -2,7 +2,6 @@ mod Lots
 mod Bills
 mod Parts
 mod Jobs
-mod Reordered
 mod Joined
 mod Changes
 mod Drawing

@@ -7,7 +7,7 @@ use Rattle.cga_order.specs.declared.placed.Kind.{Kind}
 use Rattle.cga_order.specs.World.{Has}
 use Rattle.cga_city.proofs.Door.{among_has, before_strict, filter_from, filter_to, has_among, is_of, lot_differs, sorted_from, sorted_is, sorted_rises, sorted_to}
 use Rattle.cga_derivation.proofs.Door.{derived_consistent}
-use Rattle.cga_district.proofs.Door.{differ_left, differ_right, lot_among, towns, two_names}
+use Rattle.cga_district.proofs.Door.{differ_left, differ_right, lot_among, two_names}
 use Rattle.cga_expand.proofs.Door.{sources_are_derivations}
 use Rattle.cga_order.proofs.Door.{Has-append, Has-left, Has-right}
 use Rattle.cga_shape.specs.declared.shape.Shape.{Shape}
@@ -16,7 +16,7 @@ use Rattle.cga_shape.specs.declared.sources.Sources.{Sources}
 use Rattle.cga_derivation.specs.Derivation.{AllApart, IsDerived, NothingWaits}
 use Rattle.cga_expand.specs.Children.{Member}
 use Rattle.cga_expand.specs.Derivation.{derivation_of, NamesDiffer}
-use Rattle.cga_district.specs.Towns.{with_lots}
+use Rattle.cga_district.specs.Towns.{with_lots, LotsAreApart}
 use Rattle.cga_city.specs.Nodes.{AreApart}
 use Rattle.cga_city.specs.Order.{comes_before, members_of}
 use Rattle.cga_city.specs.Reports.{drawn_in, drawn_of, faults_in, fault_of}
@@ -54,8 +54,8 @@ pub places_differ : (s : Sources) → NamesDiffer s.lots → (list : List Member
 places_differ s differ list ends =
     subst (AllApart (derivation_of s)) (sym ends.1) (derived_consistent (derivation_of s) (sources_are_derivations s differ) ends.0 (subst (NothingWaits (derivation_of s)) ends.1 ends.2)).apart
 
-pub lots_are_their_districts : LotsAreTheirDistricts
-lots_are_their_districts sources differ left right lots xs ys left_ends right_ends far =
+pub lots_are_their_districts : LotsAreApart → LotsAreTheirDistricts
+lots_are_their_districts towns sources differ left right lots xs ys left_ends right_ends far =
     let w = towns sources differ left right lots xs ys left_ends right_ends far in
     let left_differ = differ_left left right lots.differ in
     let right_differ = differ_right left right lots.differ in

@@ -16,8 +16,8 @@ use Rattle.cga_expand.specs.Children.{Member}
 use Rattle.cga_expand.specs.Derivation.{NamesDiffer}
 use Rattle.cga_city.proofs.Door.{among_has, has_among}
 use Rattle.cga_city.specs.Nodes.{AreApart}
-use Rattle.cga_district.proofs.Door.{differ_left, differ_right, hulls_tell_apart, lot_among, parts_are_apart, two_names}
-use Rattle.cga_district.specs.Parts.{AllMeetNone, AreDerived, joined}
+use Rattle.cga_district.proofs.Door.{differ_left, differ_right, hulls_tell_apart, lot_among, two_names}
+use Rattle.cga_district.specs.Parts.{AllMeetNone, AreDerived, PartsAreApart, joined}
 use Rattle.cga_district.specs.Towns.{NoneAsks, with_lots}
 use Rattle.cga_region.specs.Parts.{AllTellAlike, AreSums, HullsAreApart, RegionIsItsParts, total_by}
 use Rattle.cga_region.proofs.Bills.{bills_are_sums}
@@ -102,9 +102,9 @@ far_by : (sources : Sources) (parts : List (List Lot)) → NamesDiffer (joined p
 far_by sources parts differ lists derived (inl quiet) = inl quiet
 far_by sources parts differ lists derived (inr (hull, held, far)) = inr (hulls_tell_apart sources parts differ lists derived hull held far)
 
-pub region_is_its_parts : RegionIsItsParts
-region_is_its_parts sources differ parts all lists derived far =
-    let w = parts_are_apart sources differ parts all lists derived (far_by sources parts all.differ lists derived far) in
+pub region_is_its_parts : PartsAreApart → RegionIsItsParts
+region_is_its_parts apart_parts sources differ parts all lists derived far =
+    let w = apart_parts sources differ parts all lists derived (far_by sources parts all.differ lists derived far) in
     let apart = places_differ sources differ w.0 w.1 in
     let tell = each_tells sources w.0 apart parts all.differ lists derived (λ s k x h g e. (w.2 s k).1 h) (λ s k h. (w.2 s k).0 h) in (
       w.0,
