@@ -23,4 +23,4 @@ pub use Rattle.cga_agenda.proofs.Update.{Has-drawn, IsUpdate, answers_same, draw
 -- What holds between turns, of nodes and their children
 pub use Rattle.cga_agenda.proofs.Working.{path_not_empty}
 -- A town of one lot
-pub use Rattle.cga_agenda.proofs.OneLot.{one_index, turn_from}
+pub use Rattle.cga_agenda.proofs.OneLot.{turn_from}

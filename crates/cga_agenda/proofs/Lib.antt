@@ -12,7 +12,5 @@ mod Prefixes
 mod Loop
 mod Late
 mod Own
-mod ExampleNodes
-mod Example
 mod OneLot
 pub mod Door

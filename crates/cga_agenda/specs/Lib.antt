@@ -5,5 +5,4 @@ pub mod Known
 pub mod Exact
 pub mod Loop
 pub mod Laws
-pub mod Example
 pub mod OneLot

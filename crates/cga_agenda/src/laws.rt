@@ -1,7 +1,6 @@
 //! What is proved of the work of an edit. Each function here does nothing: its contract is the law,
 //! which a caller's proof can cite.
 
-ghost use Rattle.cga_agenda.specs.Example.{ExampleWorks};
 ghost use Rattle.cga_agenda.specs.OneLot.{ALotComes};
 ghost use Rattle.cga_agenda.specs.Laws.{WorkBegins, TurnsKeepWorking, WorkIsExact};
 ghost use Rattle.cga_agenda.specs.Laws.{RecordBegins, TurnsKeepRecord, RecordIsExact};
@@ -52,12 +51,6 @@ pub fn over_budget_is_exact<N, A, B, F, P>()
 /// expanded.
 pub fn a_lot_comes()
     ensures { ALotComes }
-{}
-
-/// The premises can be met: where the priority of one child's symbol changes, its parent's turn
-/// places it again, and its own turn expands it.
-pub fn example_works()
-    ensures { ExampleWorks }
 {}
 
 /// What stands below a shape was made at its stamp or later.

@@ -9,7 +9,6 @@ mod End
 mod More
 mod Loop
 mod Again
-mod Example
 mod Stands
 mod NodeLists
 mod Place
@@ -25,5 +24,4 @@ mod Begun
 mod Roots
 mod Changes
 mod StandsAgain
-mod TreeExample
 pub mod Door

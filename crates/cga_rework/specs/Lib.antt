@@ -3,7 +3,6 @@ pub mod Ranked
 pub mod Touched
 pub mod Exact
 pub mod Laws
-pub mod Example
 pub mod Nodes
 pub mod City
 pub mod Agenda
@@ -12,4 +11,3 @@ pub mod Begin
 pub mod Changes
 pub mod Views
 pub mod TreeLaws
-pub mod TreeExample

@@ -1,10 +1,8 @@
 //! What is proved of an edit between two derivations. Each function here does nothing: its contract
 //! is the law, which a caller's proof can cite.
 
-ghost use Rattle.cga_rework.specs.Example.{PriorityTouchesTheChild};
 ghost use Rattle.cga_rework.specs.Laws.{RulesMakeEdits, ReadingsMakeEdits, DerivationsAreRules};
 ghost use Rattle.cga_rework.specs.Laws.{ReworkIsExact, KnownIsOver, OverIsNone, LoopIsExact};
-ghost use Rattle.cga_rework.specs.TreeExample.{TreeTurns};
 ghost use Rattle.cga_rework.specs.TreeLaws.{NodeTurns, QuietTurns, TakenIsPriced, AgendaIsQueued, EmptyIsNone, EntriesNumber};
 ghost use Rattle.cga_rework.specs.TreeLaws.{RootsBegin, RerootedIsCity, RootsAddUp, ListsAreChanges};
 ghost use Rattle.cga_rework.specs.TreeLaws.{WalkAsks, ListsAreViews, StandsAgain};
@@ -65,11 +63,6 @@ pub fn from_nothing<S, A, B, F, P>()
 /// Where no child of a shape changes its priority, renewing its children changes nothing.
 pub fn unchanged_children<S, A, B, F, P>()
     ensures { UnchangedChildren S A B F P }
-{}
-
-/// Where the priority of a child's symbol changes, the child is touched, and its parent isn't.
-pub fn priority_touches_the_child()
-    ensures { PriorityTouchesTheChild }
 {}
 
 /// A turn of a kept tree is a turn of the work of an edit.
@@ -135,10 +128,4 @@ pub fn lists_are_views<X, S, A, B, F, P>()
 /// What an edit leaves stands for the new rules, and so does what is put back for the old.
 pub fn stands_again<X, S, A, B, F, P>()
     ensures { StandsAgain X S A B F P }
-{}
-
-/// The premises of a turn can be met: where the priority of a child's symbol changed, its parent's turn
-/// places it again.
-pub fn tree_turns()
-    ensures { TreeTurns }
 {}
