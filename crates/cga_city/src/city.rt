@@ -216,7 +216,7 @@ impl City {
         requires place { place < length self.now.sources.lots }
         ensures { IfSome (slice_get self.now.sources.lots place) (λ lot. IsHullOf lot.name (members self.now.budget self.now.sources) result) }
     {
-        self.kept.forest.laws();
+        self.kept.forest.laws(); // for the proof
         let Some(lot) = self.sources.lots.get(place) else {
             unreachable!();
         };
@@ -235,8 +235,8 @@ impl City {
         ensures faults { result.faults ≡ spec.fault_count (members self.now.budget self.now.sources) }
         ensures expanded { result.expanded ≡ self.now.expanded }
     {
-        let _most = self.budget;
-        self.kept.forest.laws();
+        let _most = self.budget; // for the proof
+        self.kept.forest.laws(); // for the proof
         Counts {
             lots: self.sources.lots.len() as u32,
             shapes: self.kept.forest.count() as u32,

@@ -20,7 +20,7 @@ fn place_in(lots: &[Lot], name: Name) -> Option<usize>
 pub(crate) fn lot_place(lots: &Lots, name: Name) -> Option<usize>
     ensures { result ≡ spec.lot_place name lots.now }
 {
-    let _all = lots.len();
+    let _all = lots.len(); // for the proof
     let mut before = 0;
     for run in lots.runs() {
         if let Some(place) = place_in(run.as_slice(), name) {

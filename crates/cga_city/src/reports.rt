@@ -100,7 +100,7 @@ fn push_drawn_in(
 ) -> Result<(), NoMemory>
     ensures { OnOk result (ForItsMembers forest.now (λ list. drawn.new ≡ drawn.old ++ flat_map spec.drawn_of (members_of lot list))) }
 {
-    forest.laws();
+    forest.laws(); // for the proof
     let nodes = nodes_of_lot(alloc, forest, lot)?;
     push_drawn_of(drawn, forest, nodes.as_slice())?;
     Ok(())
@@ -115,7 +115,7 @@ fn push_faults_in(
 ) -> Result<(), NoMemory>
     ensures { OnOk result (ForItsMembers forest.now (λ list. faults.new ≡ faults.old ++ flat_map spec.fault_of (members_of lot list))) }
 {
-    forest.laws();
+    forest.laws(); // for the proof
     let nodes = nodes_of_lot(alloc, forest, lot)?;
     push_faults_of(alloc, faults, forest, nodes.as_slice())?;
     Ok(())

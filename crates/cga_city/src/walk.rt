@@ -16,7 +16,7 @@ pub(crate) fn nodes_of_lot(
 ) -> Result<Vec<NodeId>, NoMemory>
     ensures { IfOk result (λ nodes. AreOfLot forest.now lot nodes.items) }
 {
-    forest.laws();
+    forest.laws(); // for the proof
     match forest.root_of(lot) {
         Some(root) => nodes_from(alloc, forest, root),
         None => Ok(Vec::new(alloc)),

@@ -47,6 +47,6 @@ fn add(dependents: &mut Dependents, symbol: Name, node: NodeId) -> Result<(), No
 fn take_out(dependents: &mut Dependents, symbol: Name, node: NodeId)
     ensures noted { (s : List ℕ) (c : ℕ) → lists dependents.new s c ≡ (if is_pair symbol node s c then false else lists dependents.old s c) }
 {
-    let _nodes = dependents.nodes_of(symbol);
+    let _nodes = dependents.nodes_of(symbol); // for the proof
     dependents.remove(symbol, node);
 }

@@ -44,7 +44,7 @@ impl Nodes {
         ensures nodes { result.now ≡ self.now }
         ensures once { IsDistinct nat_eq self.now }
     {
-        let _numbers = self.numbers.as_slice();
+        let _numbers = self.numbers.as_slice(); // for the proof
         self.list.as_slice()
     }
 

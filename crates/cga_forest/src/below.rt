@@ -6,7 +6,7 @@ use crate::listing::list_below;
 use crate::moved::Moved;
 use crate::{Forest, slot_of};
 use cga_fraction::{List, NoMemory};
-use cga_index::NodeId;
+use cga_index::{LEVELS, NodeId};
 
 impl Forest {
     /// A node and all below it, each once. The time goes by their number. Takes memory.
@@ -15,7 +15,7 @@ impl Forest {
         ensures { IfOk result (λ list. ListsBelow self.now id list) }
     {
         let mut list = Vec::new(self.alloc);
-        list_below(&self.store, slot_of(id), 257, &mut list)?;
+        list_below(&self.store, slot_of(id), LEVELS, &mut list)?;
         Ok(List::from_vec(list))
     }
 }

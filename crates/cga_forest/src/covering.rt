@@ -7,6 +7,7 @@ ghost use Rattle.cga_marked.specs.Map.{ids};
 ghost use Rattle.cga_forest.specs.View.{at, hulls_of, present_of};
 
 use crate::store::Store;
+use cga_index::{BLOCK, GROUP};
 use cga_kept_hulls::Blocks;
 use cga_marked::MarkedMap;
 
@@ -47,22 +48,26 @@ fn renew(blocks: &mut Blocks, store: &Store, roots: &MarkedMap, block: usize)
     ensures { AreCovered blocks.new roots.now.list (λ c. hulls_of (at store.now c)) }
 {
     let count = roots.len();
-    if block <= count / 16 {
+    if block <= count / BLOCK {
         blocks.empty(block);
-        let from = 16 * block;
-        let to = if count - from < 16 { count } else { from + 16 };
+        let from = BLOCK * block;
+        let to = if count - from < BLOCK {
+            count
+        } else {
+            from + BLOCK
+        };
         cover_places(blocks, store, roots, from, to);
     }
 }
 
 /// Makes those blocks of a group again that took hulls in. Answers whether there were some.
 fn renew_loose(blocks: &mut Blocks, store: &Store, roots: &MarkedMap, group: usize) -> bool
-    requires group { 16 * group + 16 < 2 ^ 64 }
+    requires group { BLOCK * group + BLOCK < 2 ^ 64 }
     requires covered { AreCovered blocks.old roots.now.list (λ c. hulls_of (at store.now c)) }
     ensures { AreCovered blocks.new roots.now.list (λ c. hulls_of (at store.now c)) }
 {
     let mut some = false;
-    for block in 16 * group..16 * group + 16 {
+    for block in BLOCK * group..BLOCK * group + BLOCK {
         if blocks.is_loose(block) {
             renew(blocks, store, roots, block);
             some = true;
@@ -74,7 +79,7 @@ fn renew_loose(blocks: &mut Blocks, store: &Store, roots: &MarkedMap, group: usi
 /// Makes those blocks of a group again that took hulls in, and then the group of its blocks.
 #[tactic(auto, using(crate::proofs::Covered::covered_gathered))]
 fn tighten_group(blocks: &mut Blocks, store: &Store, roots: &MarkedMap, group: usize)
-    requires group { 16 * group + 16 < 2 ^ 64 }
+    requires group { BLOCK * group + BLOCK < 2 ^ 64 }
     requires covered { AreCovered blocks.old roots.now.list (λ c. hulls_of (at store.now c)) }
     ensures { AreCovered blocks.new roots.now.list (λ c. hulls_of (at store.now c)) }
 {
@@ -89,7 +94,7 @@ pub fn tighten(blocks: &mut Blocks, store: &Store, roots: &MarkedMap)
     requires { AreCovered blocks.old roots.now.list (λ c. hulls_of (at store.now c)) }
     ensures { AreCovered blocks.new roots.now.list (λ c. hulls_of (at store.now c)) }
 {
-    for group in 0..roots.len() / 256 + 1 {
+    for group in 0..roots.len() / GROUP + 1 {
         tighten_group(blocks, store, roots, group);
     }
     blocks.rest();

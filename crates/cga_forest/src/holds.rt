@@ -8,6 +8,6 @@ impl Forest {
     pub fn laws(&self)
         ensures { IsForest self.now }
     {
-        let _marking = self.marking;
+        let _marking = self.marking; // for the proof
     }
 }

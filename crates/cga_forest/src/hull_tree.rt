@@ -120,7 +120,7 @@ impl Forest {
         ensures found { result ≡ answer_of ((forest_tree self.now).own node) (asked (forest_tree self.now) node target (all_nodes (forest_tree self.now))) }
         ensures counted { tests.new ≤ tests.old + near (forest_tree self.now) node }
     {
-        let _marking = self.marking;
+        let _marking = self.marking; // for the proof
         answer(self, node, target, tests)
     }
 }

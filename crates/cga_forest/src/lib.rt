@@ -50,7 +50,7 @@ ghost use Rattle.cga_forest.specs.Tree.{ForestView, HasInner, content_of, above,
 use cga_check::Symbols;
 use cga_fraction::{List, NoMemory};
 use cga_frame::WorldBox;
-use cga_index::NodeId;
+use cga_index::{MOST_DEPTH, NodeId};
 use cga_kept_hulls::{Blocks, Spares};
 use cga_marked::MarkedMap;
 use cga_order::Chain;
@@ -122,6 +122,14 @@ impl Forest {
             Some(entry) => { if entry.aside { None } else { Some(&entry.node) } }
             None => None,
         }
+    }
+
+    /// The node of an id that is there.
+    pub fn node_of(&self, id: NodeId) -> &Node
+        requires here { IsSome (node_at self.now id) }
+        ensures { Some result.now ≡ content_of (node_at self.now id) }
+    {
+        &self.store.entry(slot_of(id)).node
     }
 
     /// The order in which its shapes were expanded.
@@ -221,7 +229,7 @@ impl Forest {
         let depth = depth_of(&self.store, id);
         self.spares.provide(self.alloc, depth + 1)?;
         let made = Vec::with_capacity(self.alloc, news.len())?;
-        let left = 256 - depth;
+        let left = MOST_DEPTH - depth;
         let mut plan = Plan::of(&self.store, self.alloc, id, left, news.as_slice())?;
         let changed = replace(
             &mut self.store,

@@ -15,7 +15,7 @@ use crate::slots::set_aside;
 use crate::store::add_node;
 use cga_check::Symbols;
 use cga_fraction::NoMemory;
-use cga_index::NodeId;
+use cga_index::{LEVELS, NodeId};
 use cga_kept_hulls::Hulls;
 use cga_shape::Lot;
 use cga_word::Name;
@@ -90,7 +90,7 @@ impl Forest {
             Some((place, root)) => {
                 self.roots.settle_unless(self.marking);
                 cover_place(&mut self.blocks, &self.store, &self.roots, place);
-                set_aside(&mut self.store, root, 257);
+                set_aside(&mut self.store, root, LEVELS);
                 if !self.marking {
                     self.store.settle();
                 }

@@ -2,6 +2,7 @@
 ghost use Rattle.std.specs.Prelude.{◌≡◌, ◌<◌, ◌≤◌, ◌++◌, [], ◌∷◌, length, IfOk, IsOk};
 ghost use Rattle.cga_order.specs.Head.{child_head};
 ghost use Rattle.cga_shape.specs.Root.{root_scope};
+ghost use Rattle.cga_index.specs.declared.limits.TheConstants.{MOST_DEPTH};
 ghost use Rattle.cga_forest.specs.Placing.{IsRootNode, child_asks, child_kind, child_node, child_shape, children_after, children_from, emitted, kind_after, unasked};
 
 use crate::node::Node;
@@ -57,7 +58,7 @@ pub fn children_after(
     symbols: &mut Symbols,
 ) -> Result<Vec<Node>, NoMemory>
     requires few { length (emitted outcome.now) ≤ 4096 }
-    requires low { 0 < length (emitted outcome.now) → length parent.now.line ≤ 256 }
+    requires low { 0 < length (emitted outcome.now) → length parent.now.line ≤ MOST_DEPTH }
     ensures made { IfOk result (λ made. made.items ≡ children_after symbols.old parent.now outcome.now) }
     ensures symbols { symbols.new ≡ symbols.old }
 {
@@ -74,7 +75,7 @@ fn children(
     symbols: &mut Symbols,
 ) -> Result<Vec<Node>, NoMemory>
     requires few { length emitted.now ≤ 4096 }
-    requires low { 0 < length emitted.now → length parent.now.line ≤ 256 }
+    requires low { 0 < length emitted.now → length parent.now.line ≤ MOST_DEPTH }
     ensures made { IfOk result (λ made. made.items ≡ children_from symbols.old parent.now 0 emitted.now) }
     ensures symbols { symbols.new ≡ symbols.old }
 {
@@ -93,7 +94,7 @@ fn child(
     emitted: &Emitted,
     symbols: &mut Symbols,
 ) -> Result<Node, NoMemory>
-    requires low { length parent.now.line ≤ 256 }
+    requires low { length parent.now.line ≤ MOST_DEPTH }
     ensures made { IfOk result (λ made. made ≡ child_node symbols.old parent.now index emitted.now) }
     ensures symbols { symbols.new ≡ symbols.old }
 {
@@ -113,7 +114,7 @@ fn child(
 
 /// The head of a child's chain, whose symbol has this priority.
 fn head_below(parent: &Node, priority: u16) -> u16
-    requires low { length parent.now.line ≤ 256 }
+    requires low { length parent.now.line ≤ MOST_DEPTH }
     ensures { result ≡ child_head parent.now.line parent.now.head priority }
 {
     child_head(parent.line.as_slice(), parent.head as usize, priority) as u16

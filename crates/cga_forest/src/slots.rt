@@ -1,4 +1,5 @@
 ghost use Rattle.std.specs.Prelude.{IfSome, IsSome, [], true, false, ◌≢◌, ◌≡◌, ◌<◌, ◌≤◌, ◌+◌, ◌-◌, ◌++◌, ℕ, length, IfOk, OnOk, OnErr, slice_get, Some, None, is_some, option_copied};
+ghost use Rattle.cga_index.specs.declared.limits.TheConstants.{MOST_DEPTH};
 ghost use Rattle.cga_forest.specs.View.{Seen, at, HasRoom, KeepsRoom, present_of, marked_of, hulls_of, marked_hulls_of, keeps_former, kids, flag_if};
 ghost use Rattle.cga_forest.specs.Tree.{IsWhole, HasInner, ReplacedBy, IsAt, IsPlaced, depth_at, parent_of, under, goes, stay_of, stay_child};
 ghost use Rattle.cga_forest.specs.declared.node.Node.{Node};
@@ -147,7 +148,7 @@ pub fn replace(
 ) -> Option<usize>
     requires room { HasRoom store.old (length new.news.items) }
     requires listed { length plan.old.came.items + length new.news.items ≤ plan.old.came.cap }
-    requires went { (c : ℕ) → is_listed plan.old.went.items c ≡ goes (λ d. kids (at store.old d)) (256 - depth_at (at store.old id)) (λ k w. stay_of (at store.old k) w) (kids (at store.old id)) new.news.items (length (kids (at store.old id))) c }
+    requires went { (c : ℕ) → is_listed plan.old.went.items c ≡ goes (λ d. kids (at store.old d)) (MOST_DEPTH - depth_at (at store.old id)) (λ k w. stay_of (at store.old k) w) (kids (at store.old id)) new.news.items (length (kids (at store.old id))) c }
     requires empty { new.made.items ≡ [] }
     requires space { length new.news.items ≤ new.made.cap }
     requires whole { IsWhole (λ c. present_of (at store.old c)) (λ c. hulls_of (at store.old c)) }
@@ -155,7 +156,7 @@ pub fn replace(
     requires spare { keeps_former marking (at store.old id) ≡ true → is_some new.spare ≡ true }
     requires spares { depth_at (at store.old id) < length spares.old.boxes.items }
     ensures whole { IsWhole (λ c. present_of (at store.new c)) (λ c. hulls_of (at store.new c)) }
-    ensures replaced { ReplacedBy (λ c. present_of (at store.old c)) (λ c. present_of (at store.new c)) id new.state new.news.items (λ c. goes (λ d. kids (at store.old d)) (256 - depth_at (at store.old id)) (λ k w. stay_of (at store.old k) w) (kids (at store.old id)) new.news.items (length (kids (at store.old id))) c) }
+    ensures replaced { ReplacedBy (λ c. present_of (at store.old c)) (λ c. present_of (at store.new c)) id new.state new.news.items (λ c. goes (λ d. kids (at store.old d)) (MOST_DEPTH - depth_at (at store.old id)) (λ k w. stay_of (at store.old k) w) (kids (at store.old id)) new.news.items (length (kids (at store.old id))) c) }
     ensures vacant { (c : ℕ) (d : Seen) → present_of (at store.old c) ≡ None → present_of (at store.new c) ≡ Some d → at store.old c ≡ None }
     ensures taken { (c : ℕ) → StaysTaken (at store.old c) (at store.new c) }
     ensures marked { marking ≡ true → (c : ℕ) → marked_of (at store.new c) ≡ marked_of (at store.old c) }

@@ -5,6 +5,7 @@ ghost use Rattle.cga_index.specs.Tree.{TreeView, InTree, IsFarRun, IsQuietRun, t
 ghost use Rattle.cga_index.specs.declared.standing.Standing.TheVariants.{Hidden};
 
 use crate::compare::compare;
+use crate::limits::{BLOCK, GROUP};
 use crate::node_id::NodeId;
 use crate::standing::Standing;
 use cga_fraction::Tests;
@@ -23,31 +24,31 @@ pub trait HullTree {
         requires { place < length (view self.now).roots }
         ensures { slice_get (view self.now).roots place ≡ Some result };
 
-    /// Whether the hull of a root of this block may touch the area. A block is sixteen places of the roots in a row. Where
+    /// Whether the hull of a root of this block may touch the area. A block is `BLOCK` places of the roots in a row. Where
     /// this is false a walk passes by them all; it may be true of each block.
     fn block_touches(&self, _block: usize, _area: &WorldBox) -> bool
-        ensures { result ≡ false → IsFarRun (view self.now) (16 * _block) 16 _area.now }
+        ensures { result ≡ false → IsFarRun (view self.now) (BLOCK * _block) BLOCK _area.now }
     {
         true
     }
 
     /// The same of the hulls of those that ask.
     fn block_asks(&self, _block: usize, _area: &WorldBox) -> bool
-        ensures { result ≡ false → IsQuietRun (view self.now) (16 * _block) 16 _area.now }
+        ensures { result ≡ false → IsQuietRun (view self.now) (BLOCK * _block) BLOCK _area.now }
     {
         true
     }
 
-    /// The same of a group, which is sixteen blocks in a row.
+    /// The same of a group, which is `GROUP` places in a row.
     fn group_touches(&self, _group: usize, _area: &WorldBox) -> bool
-        ensures { result ≡ false → IsFarRun (view self.now) (256 * _group) 256 _area.now }
+        ensures { result ≡ false → IsFarRun (view self.now) (GROUP * _group) GROUP _area.now }
     {
         true
     }
 
     /// The same of the hulls of those that ask.
     fn group_asks(&self, _group: usize, _area: &WorldBox) -> bool
-        ensures { result ≡ false → IsQuietRun (view self.now) (256 * _group) 256 _area.now }
+        ensures { result ≡ false → IsQuietRun (view self.now) (GROUP * _group) GROUP _area.now }
     {
         true
     }

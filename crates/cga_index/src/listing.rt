@@ -3,6 +3,7 @@ ghost use Rattle.std.specs.List.{flat_map};
 ghost use Rattle.cga_index.specs.Tree.{IsHullTree, InTree, below, askers, ListsAskers};
 
 use crate::hull_tree::HullTree;
+use crate::limits::{BLOCK, GROUP, LEVELS, MOST_DEPTH};
 use crate::node_id::NodeId;
 use crate::steps::{block_end, child_of, root_of};
 use cga_fraction::{List, NoMemory, Tests};
@@ -54,7 +55,7 @@ fn list_from<H: HullTree, T: Ledger>(
 ) -> Result<(), NoMemory>
     requires laws { IsHullTree (H.view tree.now) }
     requires node { InTree (H.view tree.now) node }
-    requires left { left + (H.view tree.now).depth node ≡ 257 }
+    requires left { left + (H.view tree.now).depth node ≡ LEVELS }
     ensures { OnOk result (out.new.items ≡ out.old.items ++ askers (H.view tree.now) area.now (below (H.view tree.now) left node)) }
 {
     if !may_ask(tree, node, left, area) {
@@ -77,7 +78,7 @@ fn list_children<H: HullTree, T: Ledger>(
 ) -> Result<(), NoMemory>
     requires laws { IsHullTree (H.view tree.now) }
     requires node { InTree (H.view tree.now) node }
-    requires left { left + (H.view tree.now).depth node ≡ 256 }
+    requires left { left + (H.view tree.now).depth node ≡ MOST_DEPTH }
     ensures { OnOk result (out.new.items ≡ out.old.items ++ askers (H.view tree.now) area.now (flat_map (below (H.view tree.now) left) ((H.view tree.now).children node))) }
 {
     for place in 0..tree.children(node) {
@@ -96,17 +97,17 @@ fn list_block<H: HullTree, T: Ledger>(
     out: &mut Vec<NodeId>,
 ) -> Result<(), NoMemory>
     requires laws { IsHullTree (H.view tree.now) }
-    requires block { 16 * block ≤ length (H.view tree.now).roots }
-    ensures { OnOk result (out.new.items ++ askers (H.view tree.now) area.now (flat_map (below (H.view tree.now) 257) (drop (16 * (block + 1)) (H.view tree.now).roots)) ≡ out.old.items ++ askers (H.view tree.now) area.now (flat_map (below (H.view tree.now) 257) (drop (16 * block) (H.view tree.now).roots))) }
+    requires block { BLOCK * block ≤ length (H.view tree.now).roots }
+    ensures { OnOk result (out.new.items ++ askers (H.view tree.now) area.now (flat_map (below (H.view tree.now) LEVELS) (drop (BLOCK * (block + 1)) (H.view tree.now).roots)) ≡ out.old.items ++ askers (H.view tree.now) area.now (flat_map (below (H.view tree.now) LEVELS) (drop (BLOCK * block) (H.view tree.now).roots))) }
 {
     if !tree.block_asks(block, area) {
         return Ok(());
     }
     let roots = tree.roots();
-    let from = 16 * block;
+    let from = BLOCK * block;
     for place in from..block_end(from, roots) {
         let root = root_of(tree, place);
-        list_from(tree, root, 257, area, tests, out)?;
+        list_from(tree, root, LEVELS, area, tests, out)?;
     }
     Ok(())
 }
@@ -120,14 +121,14 @@ fn list_group<H: HullTree, T: Ledger>(
     out: &mut Vec<NodeId>,
 ) -> Result<(), NoMemory>
     requires laws { IsHullTree (H.view tree.now) }
-    requires group { 256 * group ≤ length (H.view tree.now).roots }
-    ensures { OnOk result (out.new.items ++ askers (H.view tree.now) area.now (flat_map (below (H.view tree.now) 257) (drop (256 * (group + 1)) (H.view tree.now).roots)) ≡ out.old.items ++ askers (H.view tree.now) area.now (flat_map (below (H.view tree.now) 257) (drop (256 * group) (H.view tree.now).roots))) }
+    requires group { GROUP * group ≤ length (H.view tree.now).roots }
+    ensures { OnOk result (out.new.items ++ askers (H.view tree.now) area.now (flat_map (below (H.view tree.now) LEVELS) (drop (GROUP * (group + 1)) (H.view tree.now).roots)) ≡ out.old.items ++ askers (H.view tree.now) area.now (flat_map (below (H.view tree.now) LEVELS) (drop (GROUP * group) (H.view tree.now).roots))) }
 {
     if !tree.group_asks(group, area) {
         return Ok(());
     }
-    let blocks = tree.roots() / 16 + 1;
-    let from = 16 * group;
+    let blocks = tree.roots() / BLOCK + 1;
+    let from = BLOCK * group;
     for block in from..block_end(from, blocks) {
         list_block(tree, block, area, tests, out)?;
     }
@@ -145,7 +146,7 @@ pub fn queriers_meeting<H: HullTree, T: Ledger>(
     ensures { IfOk result (λ list. ListsAskers (H.view tree.now) area.now list) }
 {
     let mut out = Vec::new(alloc);
-    for group in 0..tree.roots() / 256 + 1 {
+    for group in 0..tree.roots() / GROUP + 1 {
         list_group(tree, group, area, tests, &mut out)?;
     }
     Ok(List::from_vec(out))

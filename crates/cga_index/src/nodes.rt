@@ -3,6 +3,7 @@ ghost use Rattle.std.specs.Prelude.{◌≡◌, ◌++◌, ◌∷◌, [], IfOk};
 ghost use Rattle.cga_index.specs.Tree.{IsHullTree, InTree, all_nodes, below};
 
 use crate::hull_tree::HullTree;
+use crate::limits::LEVELS;
 use crate::node_id::NodeId;
 use crate::visitor::Visitor;
 use crate::visits::{visit_all, visit_from};
@@ -30,10 +31,10 @@ pub fn nodes_from<H: HullTree>(
     requires laws { IsHullTree (H.view tree.now) }
     requires node { InTree (H.view tree.now) root }
     requires highest { (H.view tree.now).depth root ≡ 0 }
-    ensures { IfOk result (λ nodes. nodes.items ≡ below (H.view tree.now) 257 root) }
+    ensures { IfOk result (λ nodes. nodes.items ≡ below (H.view tree.now) LEVELS root) }
 {
     let mut nodes = Vec::new(alloc);
-    visit_from(tree, root, 257, &mut nodes)?;
+    visit_from(tree, root, LEVELS, &mut nodes)?;
     Ok(nodes)
 }
 

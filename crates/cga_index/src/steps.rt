@@ -3,17 +3,22 @@ ghost use Rattle.std.specs.Prelude.{◌≡◌, ◌<◌, ◌≤◌, ◌+◌, leng
 ghost use Rattle.cga_index.specs.Tree.{IsHullTree, InTree};
 
 use crate::hull_tree::HullTree;
+use crate::limits::BLOCK;
 use crate::node_id::NodeId;
 
-/// Where sixteen in a row end that begin at this place, of so many.
+/// Where a block ends that begins at this place, of so many.
 pub(crate) fn block_end(from: usize, roots: usize) -> usize
     requires { from ≤ roots }
     ensures begun { from ≤ result }
     ensures within { result ≤ roots }
-    ensures most { result ≤ from + 16 }
-    ensures whole { result < roots → result ≡ from + 16 }
+    ensures most { result ≤ from + BLOCK }
+    ensures whole { result < roots → result ≡ from + BLOCK }
 {
-    if roots - from < 16 { roots } else { from + 16 }
+    if roots - from < BLOCK {
+        roots
+    } else {
+        from + BLOCK
+    }
 }
 
 /// A root of the tree, which stands highest.

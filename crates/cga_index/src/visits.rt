@@ -4,6 +4,7 @@ ghost use Rattle.std.specs.List.{FoldsTo, flat_map};
 ghost use Rattle.cga_index.specs.Tree.{IsHullTree, InTree, all_nodes, below};
 
 use crate::hull_tree::HullTree;
+use crate::limits::{LEVELS, MOST_DEPTH};
 use crate::node_id::NodeId;
 use crate::steps::{child_of, root_of};
 use crate::visitor::Visitor;
@@ -18,7 +19,7 @@ pub(crate) fn visit_from<H: HullTree, V: Visitor<H>>(
 ) -> Result<(), V::Stop>
     requires laws { IsHullTree (H.view tree.now) }
     requires node { InTree (H.view tree.now) node }
-    requires left { left + (H.view tree.now).depth node ≡ 257 }
+    requires left { left + (H.view tree.now).depth node ≡ LEVELS }
     ensures { OnOk result (FoldsTo (V.steps tree.now) visitor.old (below (H.view tree.now) left node) visitor.new) }
 {
     visitor.visit(tree, node)?;
@@ -36,7 +37,7 @@ fn visit_children<H: HullTree, V: Visitor<H>>(
 ) -> Result<(), V::Stop>
     requires laws { IsHullTree (H.view tree.now) }
     requires node { InTree (H.view tree.now) node }
-    requires left { left + (H.view tree.now).depth node ≡ 256 }
+    requires left { left + (H.view tree.now).depth node ≡ MOST_DEPTH }
     ensures { OnOk result (FoldsTo (V.steps tree.now) visitor.old (flat_map (below (H.view tree.now) left) ((H.view tree.now).children node)) visitor.new) }
 {
     for place in 0..tree.children(node) {
@@ -53,7 +54,7 @@ pub fn visit_all<H: HullTree, V: Visitor<H>>(tree: &H, visitor: &mut V) -> Resul
 {
     for place in 0..tree.roots() {
         let root = root_of(tree, place);
-        visit_from(tree, root, 257, visitor)?;
+        visit_from(tree, root, LEVELS, visitor)?;
     }
     Ok(())
 }

@@ -5,6 +5,7 @@ ghost use Rattle.cga_index.specs.Tree.{IsHullTree, InTree, below, all_nodes, nea
 
 use crate::compare::compare;
 use crate::hull_tree::HullTree;
+use crate::limits::{BLOCK, GROUP, LEVELS, MOST_DEPTH};
 use crate::node_id::NodeId;
 use crate::of_two::{adds, is_full, is_nothing, joined};
 use crate::standing::Standing;
@@ -101,7 +102,7 @@ fn visit<H: HullTree, T: Ledger>(
     requires node { InTree (H.view tree.now) node }
     requires by { InTree (H.view tree.now) by }
     requires area { area.now ≡ (H.view tree.now).own by }
-    requires left { left + (H.view tree.now).depth node ≡ 257 }
+    requires left { left + (H.view tree.now).depth node ≡ LEVELS }
     ensures found { result ≡ join before (answer_over (H.view tree.now) by target (below (H.view tree.now) left node)) }
     ensures counted { tests.new ≤ tests.old + reads (H.view tree.now) by left node }
 {
@@ -137,7 +138,7 @@ fn visit_children<H: HullTree, T: Ledger>(
     requires node { InTree (H.view tree.now) node }
     requires by { InTree (H.view tree.now) by }
     requires area { area.now ≡ (H.view tree.now).own by }
-    requires left { left + (H.view tree.now).depth node ≡ 256 }
+    requires left { left + (H.view tree.now).depth node ≡ MOST_DEPTH }
     ensures found { result ≡ join before (answer_over (H.view tree.now) by target (flat_map (below (H.view tree.now) left) ((H.view tree.now).children node))) }
     ensures counted { tests.new ≤ tests.old + total (reads (H.view tree.now) by left) ((H.view tree.now).children node) }
 {
@@ -163,11 +164,11 @@ fn visit_block<H: HullTree, T: Ledger>(
     tests: &mut Tests<T>,
 ) -> Answer
     requires laws { IsHullTree (H.view tree.now) }
-    requires block { 16 * block ≤ length (H.view tree.now).roots }
+    requires block { BLOCK * block ≤ length (H.view tree.now).roots }
     requires by { InTree (H.view tree.now) by }
     requires area { area.now ≡ (H.view tree.now).own by }
-    ensures found { join before (answer_over (H.view tree.now) by target (flat_map (below (H.view tree.now) 257) (drop (16 * block) (H.view tree.now).roots))) ≡ join result (answer_over (H.view tree.now) by target (flat_map (below (H.view tree.now) 257) (drop (16 * (block + 1)) (H.view tree.now).roots))) }
-    ensures counted { tests.new + total (reads (H.view tree.now) by 257) (drop (16 * (block + 1)) (H.view tree.now).roots) ≤ tests.old + total (reads (H.view tree.now) by 257) (drop (16 * block) (H.view tree.now).roots) }
+    ensures found { join before (answer_over (H.view tree.now) by target (flat_map (below (H.view tree.now) LEVELS) (drop (BLOCK * block) (H.view tree.now).roots))) ≡ join result (answer_over (H.view tree.now) by target (flat_map (below (H.view tree.now) LEVELS) (drop (BLOCK * (block + 1)) (H.view tree.now).roots))) }
+    ensures counted { tests.new + total (reads (H.view tree.now) by LEVELS) (drop (BLOCK * (block + 1)) (H.view tree.now).roots) ≤ tests.old + total (reads (H.view tree.now) by LEVELS) (drop (BLOCK * block) (H.view tree.now).roots) }
 {
     if is_full(before) {
         return before;
@@ -176,11 +177,11 @@ fn visit_block<H: HullTree, T: Ledger>(
         return before;
     }
     let roots = tree.roots();
-    let from = 16 * block;
+    let from = BLOCK * block;
     let mut found = before;
     for place in from..block_end(from, roots) {
         let root = root_of(tree, place);
-        found = visit(tree, root, 257, found, by, target, area, tests);
+        found = visit(tree, root, LEVELS, found, by, target, area, tests);
         if is_full(found) {
             return found;
         }
@@ -199,11 +200,11 @@ fn visit_group<H: HullTree, T: Ledger>(
     tests: &mut Tests<T>,
 ) -> Answer
     requires laws { IsHullTree (H.view tree.now) }
-    requires group { 256 * group ≤ length (H.view tree.now).roots }
+    requires group { GROUP * group ≤ length (H.view tree.now).roots }
     requires by { InTree (H.view tree.now) by }
     requires area { area.now ≡ (H.view tree.now).own by }
-    ensures found { join before (answer_over (H.view tree.now) by target (flat_map (below (H.view tree.now) 257) (drop (256 * group) (H.view tree.now).roots))) ≡ join result (answer_over (H.view tree.now) by target (flat_map (below (H.view tree.now) 257) (drop (256 * (group + 1)) (H.view tree.now).roots))) }
-    ensures counted { tests.new + total (reads (H.view tree.now) by 257) (drop (256 * (group + 1)) (H.view tree.now).roots) ≤ tests.old + total (reads (H.view tree.now) by 257) (drop (256 * group) (H.view tree.now).roots) }
+    ensures found { join before (answer_over (H.view tree.now) by target (flat_map (below (H.view tree.now) LEVELS) (drop (GROUP * group) (H.view tree.now).roots))) ≡ join result (answer_over (H.view tree.now) by target (flat_map (below (H.view tree.now) LEVELS) (drop (GROUP * (group + 1)) (H.view tree.now).roots))) }
+    ensures counted { tests.new + total (reads (H.view tree.now) by LEVELS) (drop (GROUP * (group + 1)) (H.view tree.now).roots) ≤ tests.old + total (reads (H.view tree.now) by LEVELS) (drop (GROUP * group) (H.view tree.now).roots) }
 {
     if is_full(before) {
         return before;
@@ -211,8 +212,8 @@ fn visit_group<H: HullTree, T: Ledger>(
     if !tree.group_touches(group, area) {
         return before;
     }
-    let blocks = tree.roots() / 16 + 1;
-    let from = 16 * group;
+    let blocks = tree.roots() / BLOCK + 1;
+    let from = BLOCK * group;
     let mut found = before;
     for block in from..block_end(from, blocks) {
         found = visit_block(tree, block, found, by, target, area, tests);
@@ -234,7 +235,7 @@ pub fn answer<H: HullTree, T: Ledger>(
 {
     let area = tree.own_box(node, tests);
     let mut found = Answer::Nothing;
-    for group in 0..tree.roots() / 256 + 1 {
+    for group in 0..tree.roots() / GROUP + 1 {
         found = visit_group(tree, group, found, node, target, &area, tests);
     }
     found

@@ -3,11 +3,11 @@ ghost use Rattle.cga_kept_hulls.specs.declared.hulls.Hulls.{Hulls};
 ghost use Rattle.cga_kept_hulls.specs.Blocks.{HoldsKnown, IsEmptied, IsGathered, IsHeld, IsIn, IsLeast, StaysHeld, StaysIn, block_holds, is_loose};
 
 use crate::hulls::Hulls;
-use crate::level::Level;
+use crate::level::{Level, PLACES};
 use cga_fraction::NoMemory;
 use std::alloc::Global;
 
-/// Hulls over the roots, for sixteen places of their list at a time, and for sixteen such blocks, so that a question
+/// Hulls over the roots, for a block of places of their list at a time, and for a group of blocks, so that a question
 /// needn't look at each root.
 #[derive(Drop)]
 pub struct Blocks {
@@ -31,10 +31,10 @@ impl Blocks {
         ensures { (place : ℕ) (h : Hulls) → place < roots → IsHeld self.old place h → IsHeld self.new place h }
     {
         self.blocks.make_room(roots, hulls)?;
-        if roots % 16 == 0 {
-            self.groups.make_room(roots / 16, hulls)?;
+        if roots % PLACES == 0 {
+            self.groups.make_room(roots / PLACES, hulls)?;
         }
-        if roots / 16 >= self.loose.len() {
+        if roots / PLACES >= self.loose.len() {
             self.loose.push(false)?;
         }
         Ok(())
@@ -44,11 +44,11 @@ impl Blocks {
     pub fn join(&mut self, place: usize, hulls: &Hulls)
         ensures here { IsHeld self.new place hulls.now }
         ensures kept { StaysHeld self.old self.new }
-        ensures loose { place / 16 < length self.old.loose.items → is_loose self.new (place / 16) ≡ true }
+        ensures loose { place / PLACES < length self.old.loose.items → is_loose self.new (place / PLACES) ≡ true }
     {
         self.blocks.join(place, hulls);
-        self.groups.join(place / 16, hulls);
-        let block = place / 16;
+        self.groups.join(place / PLACES, hulls);
+        let block = place / PLACES;
         if block < self.loose.len() {
             self.loose[block] = true;
         }
@@ -56,8 +56,8 @@ impl Blocks {
 
     /// Whether a block is there for each of so many roots.
     pub fn reaches(&self, roots: usize) -> bool
-        ensures there { result ≡ true → (place : ℕ) → place < roots → place / 16 < length self.now.blocks.hulls.items }
-        ensures lacking { result ≡ false → (place : ℕ) × (place < roots) × (length self.now.blocks.hulls.items ≤ place / 16) }
+        ensures there { result ≡ true → (place : ℕ) → place < roots → place / PLACES < length self.now.blocks.hulls.items }
+        ensures lacking { result ≡ false → (place : ℕ) × (place < roots) × (length self.now.blocks.hulls.items ≤ place / PLACES) }
     {
         roots == 0 || self.blocks.has(roots - 1)
     }
@@ -74,7 +74,7 @@ impl Blocks {
 
     /// Empties a block, if it is there.
     pub fn empty(&mut self, block: usize)
-        ensures others { (place : ℕ) (h : Hulls) → place / 16 ≢ block → IsHeld self.old place h → IsHeld self.new place h }
+        ensures others { (place : ℕ) (h : Hulls) → place / PLACES ≢ block → IsHeld self.old place h → IsHeld self.new place h }
         ensures emptied { IsEmptied self.old.blocks.hulls.items self.new.blocks.hulls.items block }
         ensures groups { self.new.groups ≡ self.old.groups }
         ensures loose { self.new.loose ≡ self.old.loose }
@@ -87,9 +87,9 @@ impl Blocks {
         ensures blocks { self.new.blocks ≡ self.old.blocks }
         ensures kept { StaysIn self.old.groups.hulls.items self.new.groups.hulls.items }
         ensures here { (h : Hulls) → block < length self.old.blocks.hulls.items → block_holds (slice_get self.old.blocks.hulls.items block) h ≡ true → IsIn self.new.groups.hulls.items block h }
-        ensures known { HoldsKnown (slice_get self.new.groups.hulls.items (block / 16)) (slice_get self.old.blocks.hulls.items block) }
-        ensures least { IsLeast (slice_get self.old.groups.hulls.items (block / 16)) (slice_get self.old.blocks.hulls.items block) (slice_get self.new.groups.hulls.items (block / 16)) }
-        ensures others { (group : ℕ) → group ≢ block / 16 → slice_get self.new.groups.hulls.items group ≡ slice_get self.old.groups.hulls.items group }
+        ensures known { HoldsKnown (slice_get self.new.groups.hulls.items (block / PLACES)) (slice_get self.old.blocks.hulls.items block) }
+        ensures least { IsLeast (slice_get self.old.groups.hulls.items (block / PLACES)) (slice_get self.old.blocks.hulls.items block) (slice_get self.new.groups.hulls.items (block / PLACES)) }
+        ensures others { (group : ℕ) → group ≢ block / PLACES → slice_get self.new.groups.hulls.items group ≡ slice_get self.old.groups.hulls.items group }
         ensures count { length self.new.groups.hulls.items ≡ length self.old.groups.hulls.items }
         ensures loose { self.new.loose ≡ self.old.loose }
     {
@@ -100,8 +100,8 @@ impl Blocks {
 
     /// Makes a group again, of its blocks.
     pub fn gather(&mut self, group: usize)
-        requires { 16 * group + 16 < 2 ^ 64 }
-        ensures kept { (place : ℕ) (h : Hulls) → place / 16 < length self.old.blocks.hulls.items → IsHeld self.old place h → IsHeld self.new place h }
+        requires { PLACES * group + PLACES < 2 ^ 64 }
+        ensures kept { (place : ℕ) (h : Hulls) → place / PLACES < length self.old.blocks.hulls.items → IsHeld self.old place h → IsHeld self.new place h }
         ensures gathered { IsGathered self.old.blocks.hulls.items group (slice_get self.new.groups.hulls.items group) }
         ensures others { (other : ℕ) → other ≢ group → slice_get self.new.groups.hulls.items other ≡ slice_get self.old.groups.hulls.items other }
         ensures count { length self.new.groups.hulls.items ≡ length self.old.groups.hulls.items }
@@ -109,7 +109,7 @@ impl Blocks {
         ensures loose { self.new.loose ≡ self.old.loose }
     {
         self.groups.empty(group);
-        for block in 16 * group..16 * group + 16 {
+        for block in PLACES * group..PLACES * group + PLACES {
             self.gather_block(block);
         }
     }

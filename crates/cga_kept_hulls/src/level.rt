@@ -7,7 +7,10 @@ use cga_fraction::NoMemory;
 use cga_frame::WorldBox;
 use std::alloc::Global;
 
-/// Hulls over a list, one entry for sixteen places in a row. An entry holds the hulls at its places and needn't be the
+/// The places of an entry: the roots of a block, and the blocks of a group.
+pub const PLACES: usize = 16;
+
+/// Hulls over a list, one entry for so many places in a row. An entry holds the hulls at its places and needn't be the
 /// least; of one that isn't there nothing is known.
 #[derive(Drop)]
 pub struct Level {
@@ -27,7 +30,7 @@ impl Level {
         ensures room { OnOk result (HasRoom self.old.hulls.items self.new.hulls.items places hulls.now) }
         ensures err { OnErr result (self.new.hulls.items ≡ self.old.hulls.items) }
     {
-        if places % 16 == 0 && places / 16 == self.hulls.len() {
+        if places % PLACES == 0 && places / PLACES == self.hulls.len() {
             self.hulls.reserve(1)?;
             self.hulls.push_reserved(Some(*hulls));
         }
@@ -38,11 +41,11 @@ impl Level {
     pub fn join(&mut self, place: usize, hulls: &Hulls)
         ensures here { IsIn self.new.hulls.items place hulls.now }
         ensures kept { StaysIn self.old.hulls.items self.new.hulls.items }
-        ensures least { IsLeast (slice_get self.old.hulls.items (place / 16)) (Some (Some hulls.now)) (slice_get self.new.hulls.items (place / 16)) }
-        ensures others { (entry : ℕ) → entry ≢ place / 16 → slice_get self.new.hulls.items entry ≡ slice_get self.old.hulls.items entry }
+        ensures least { IsLeast (slice_get self.old.hulls.items (place / PLACES)) (Some (Some hulls.now)) (slice_get self.new.hulls.items (place / PLACES)) }
+        ensures others { (entry : ℕ) → entry ≢ place / PLACES → slice_get self.new.hulls.items entry ≡ slice_get self.old.hulls.items entry }
         ensures count { length self.new.hulls.items ≡ length self.old.hulls.items }
     {
-        let entry = place / 16;
+        let entry = place / PLACES;
         if entry >= self.hulls.len() {
             return;
         }
@@ -55,9 +58,9 @@ impl Level {
 
     /// Whether an entry is there for a place.
     pub fn has(&self, place: usize) -> bool
-        ensures { IsTrue result ↔ (place / 16 < length self.now.hulls.items) }
+        ensures { IsTrue result ↔ (place / PLACES < length self.now.hulls.items) }
     {
-        place / 16 < self.hulls.len()
+        place / PLACES < self.hulls.len()
     }
 
     /// The hulls of an entry, if it is there and holds some.
@@ -73,7 +76,7 @@ impl Level {
     /// Empties an entry, if it is there.
     #[tactic(auto, using(crate::proofs::Held::emptied_there, crate::proofs::Held::emptied_past))]
     pub fn empty(&mut self, entry: usize)
-        ensures others { (place : ℕ) (h : Hulls) → place / 16 ≢ entry → IsIn self.old.hulls.items place h → IsIn self.new.hulls.items place h }
+        ensures others { (place : ℕ) (h : Hulls) → place / PLACES ≢ entry → IsIn self.old.hulls.items place h → IsIn self.new.hulls.items place h }
         ensures emptied { IsEmptied self.old.hulls.items self.new.hulls.items entry }
     {
         if entry < self.hulls.len() {

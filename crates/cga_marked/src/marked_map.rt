@@ -62,7 +62,7 @@ impl MarkedMap {
         ensures id { option_map (λ p. p.1) result ≡ id_under self.now.list name }
         ensures place { IfSome result (λ p. slice_get self.now.list p.0 ≡ Some (name, p.1)) }
     {
-        let _entries = self.map.len();
+        let _entries = self.map.len(); // for the proof
         match self.map.get_full(&name) {
             Some((place, _, id)) => {
                 if place < self.shown {
@@ -103,7 +103,7 @@ impl MarkedMap {
         ensures former { self.new.former ≡ self.old.former }
         ensures apart { AreApart self.new.list }
     {
-        let _entries = self.map.len();
+        let _entries = self.map.len(); // for the proof
         let gap = gap_of(self.steps.as_slice(), self.shown);
         let (place, former) = self.map.insert_full(name, id).unwrap();
         self.map.swap_indices(self.shown, place);
@@ -122,7 +122,7 @@ impl MarkedMap {
         ensures former { self.new.former ≡ self.old.former }
         ensures apart { AreApart self.new.list }
     {
-        let _entries = self.map.len();
+        let _entries = self.map.len(); // for the proof
         match self.place_of(name) {
             Some((place, id)) => {
                 self.shown -= 1;
@@ -160,7 +160,7 @@ impl MarkedMap {
         ensures apart { AreApart self.new.list }
     {
         self.shown = take_back_all(&mut self.map, self.shown, &mut self.steps);
-        let _entries = self.map.len();
+        let _entries = self.map.len(); // for the proof
     }
 }
 
@@ -179,7 +179,7 @@ fn take_back(map: &mut IndexMap<Name, usize>, shown: usize, step: Step) -> usize
     requires { IsUndoable step (record { entries = map.old.entries; shown = shown }) }
     ensures { undo step (record { entries = map.old.entries; shown = shown }) ≡ record { entries = map.new.entries; shown = result } }
 {
-    let _entries = map.len();
+    let _entries = map.len(); // for the proof
     match step {
         Step::Came { place, former, gap } => {
             map.swap_indices(gap, shown - 1);

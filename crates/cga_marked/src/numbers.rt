@@ -39,7 +39,7 @@ pub fn recounted<E: Marked>(numbers: Numbers, was: Sort, entries: &Slab<E>, id: 
     ensures { AreOf E.counts entries.now.slots result }
 {
     let is = sort_at(entries, id);
-    let _most = entries.len();
+    let _most = entries.len(); // for the proof
     Numbers {
         first: counted(numbers.first, was.is_first(), is.is_first()),
         second: counted(numbers.second, was.is_second(), is.is_second()),

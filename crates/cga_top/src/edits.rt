@@ -27,7 +27,7 @@ fn work_edit<E: Ledger, T: Ledger>(
     ensures { IfOk result (λ told. Works session.old edit told session.new expansions.old expansions.new) }
 {
     // They are sound and within the budget.
-    let _before = session.city.sources();
+    let _before = session.city.sources(); // for the proof
     match session.city.edit(edit, expansions, tests) {
         Ok(()) => {
             session.bill.apply(session.city.changes())?;
@@ -50,7 +50,7 @@ fn do_edit<E: Ledger, T: Ledger>(
     ensures { IfOk result (λ told. Tells session.old edit told session.new expansions.old expansions.new) }
 {
     // They are sound and within the budget.
-    let _before = session.city.sources();
+    let _before = session.city.sources(); // for the proof
     match session.city.hand_out(edit, expansions, tests) {
         Ok(former) => {
             session.bill.apply(session.city.changes())?;

@@ -23,7 +23,7 @@ fn run(session: &Session) -> Result<List<TraceStep>, NoMemory>
     ensures value { (s : State) → IsAt s session.now → IfOk result (λ run. run ≡ run_of s) }
     ensures fields { IfOk result AreSteps }
 {
-    let _sources = session.city.sources();
+    let _sources = session.city.sources(); // for the proof
     session.city.trace()
 }
 

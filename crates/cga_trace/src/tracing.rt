@@ -53,12 +53,9 @@ fn step_at(alloc: Global, forest: &Forest, id: NodeId) -> Result<TraceStep, NoMe
     requires here { IsSome (node_at forest.now id) }
     ensures { IfOk result (λ step. (d : Seen) → node_at forest.now id ≡ Some d → step ≡ step_of_node d) }
 {
-    forest.laws();
+    forest.laws(); // for the proof
     let children = forest.children(id);
-    match forest.node(id) {
-        Some(node) => step_of(alloc, node, children),
-        None => unreachable!(),
-    }
+    step_of(alloc, forest.node_of(id), children)
 }
 
 // The steps of these turns, one after the other.
@@ -82,7 +79,7 @@ pub fn trace(alloc: Global, forest: &Forest) -> Result<List<TraceStep>, NoMemory
     ensures run { IfOk result (λ steps. (sources : Sources) (end : ℕ) → IsKnown sources end forest.now → IsRun sources steps) }
     ensures fields { IfOk result AreSteps }
 {
-    forest.laws();
+    forest.laws(); // for the proof
     let nodes = all_nodes(alloc, forest)?;
     let mut turns = turns_of(alloc, forest, nodes.as_slice())?;
     sort_turns(forest.mode(), &mut turns)?;

@@ -38,10 +38,7 @@ fn child_again(alloc: Global, forest: &Forest, id: NodeId) -> Result<Emitted, No
     requires here { IsSome (node_at forest.now id) }
     ensures { IfOk result (λ made. (d : Seen) → node_at forest.now id ≡ Some d → made ≡ emitted_of d.node) }
 {
-    match forest.node(id) {
-        Some(node) => emitted_again(alloc, node),
-        None => unreachable!(),
-    }
+    emitted_again(alloc, forest.node_of(id))
 }
 
 /// What was emitted for the children of a node. Takes memory.
@@ -50,7 +47,7 @@ fn children_again(alloc: Global, forest: &Forest, id: NodeId) -> Result<List<Emi
     ensures emitted { IfOk result (λ made. (e : Seen) → node_at forest.now id ≡ Some e → AreEmitted forest.now e (length e.children) made) }
     ensures few { IfOk result (λ made. length made ≤ MOST) }
 {
-    forest.laws();
+    forest.laws(); // for the proof
     let count = forest.children(id);
     let mut made = Vec::new(alloc);
     for place in 0..count {
@@ -83,11 +80,8 @@ fn fault_of(forest: &Forest, id: NodeId) -> Option<ShapeFault>
     requires here { IsSome (node_at forest.now id) }
     ensures { (e : Seen) → node_at forest.now id ≡ Some e → result ≡ fault_in e.node.kind }
 {
-    match forest.node(id) {
-        Some(node) => match node.kind {
-            Kind::Faulted(fault) => Some(fault),
-            _ => None,
-        },
-        None => unreachable!(),
+    match forest.node_of(id).kind {
+        Kind::Faulted(fault) => Some(fault),
+        _ => None,
     }
 }

@@ -27,7 +27,7 @@ pub fn asked<T: Ledger>(forest: &Forest, id: NodeId, said: Said, tests: &mut Tes
         → said.active ≡ asks_for new.grammar d.node.shape.symbol Active
         → result ≡ kept.asked (new_world (the_edit old new)) (kept_nodes forest.now) (ranked d.node) }
 {
-    forest.laws();
+    forest.laws(); // for the proof
     let noparent = answered(forest, id, Target::Noparent, said.noparent, tests);
     let active = answered(forest, id, Target::Active, said.active, tests);
     Answers { noparent, active }

@@ -20,7 +20,7 @@ pub fn askers_near<T: Ledger>(
 ) -> Result<List<NodeId>, NoMemory>
     ensures { IfOk result (ListsAskers forest.now (went.now ++ came.now)) }
 {
-    forest.laws();
+    forest.laws(); // for the proof
     let mut areas = Vec::with_capacity(alloc, went.len() + came.len())?;
     add_boxes(went, &mut areas)?;
     add_boxes(came, &mut areas)?;

@@ -55,7 +55,7 @@ fn begin<T: Ledger>(
     let alloc = work.alloc;
     let renewal = work.renewal;
     let mut went = Vec::new(alloc);
-    work.forest.laws();
+    work.forest.laws(); // for the proof
     remove_roots(
         alloc,
         &mut work.forest,
@@ -70,7 +70,7 @@ fn begin<T: Ledger>(
     let came_nodes = came.as_slice();
     note_went(went_nodes, &mut work.log, &mut work.gone)?;
     note_came(came_nodes, &mut work.log, &mut work.come)?;
-    work.forest.laws();
+    work.forest.laws(); // for the proof
     queue_rooted(
         &mut work.agenda,
         &work.forest,

@@ -46,7 +46,7 @@ fn is_wanted(
     ensures wanted { IfOk result (λ is. is ≡ true → (c : ℕ) (d : Seen) → IsRootNamed (node_at forest.now) name c d → IsWanted renewal.entry.new.now d.node) }
     ensures unwanted { IfOk result (λ is. is ≡ false → (c : ℕ) (d : Seen) → IsRootNamed (node_at forest.now) name c d → IsWanted renewal.entry.new.now d.node → ⊥) }
 {
-    forest.laws();
+    forest.laws(); // for the proof
     let Some(lot) = lot else {
         return Ok(false);
     };
@@ -77,7 +77,7 @@ fn remove_root(forest: &mut Forest, name: Name, went: &mut Vec<Moved>) -> Result
     ensures others { OnOk result ((c : ℕ) (d : Seen) → node_at forest.old c ≡ Some d → d.parent ≡ None → (d.node.shape.lot ≡ name → ⊥) → node_at forest.new c ≡ Some d) }
     ensures mode { forest.new.mode ≡ forest.old.mode }
 {
-    forest.laws();
+    forest.laws(); // for the proof
     let Some(root) = forest.root_of(name) else {
         return Ok(());
     };

@@ -65,7 +65,7 @@ fn place<T: Ledger>(
     let nobody = has_nobody_left(work, id);
     let symbols = &mut work.symbols;
     let change = work.forest.replace_children(id, answers, outcome, symbols)?;
-    work.forest.laws();
+    work.forest.laws(); // for the proof
     note_went(change.went.as_slice(), &mut work.log, &mut work.gone)?;
     note_came(change.came.as_slice(), &mut work.log, &mut work.come)?;
     forget_all(&mut work.remembered, change.went.as_slice());
@@ -85,10 +85,7 @@ fn symbol_at(forest: &Forest, id: NodeId) -> Name
     requires here { IsSome (node_at forest.now id) }
     ensures { (d : Seen) → node_at forest.now id ≡ Some d → result ≡ d.node.shape.symbol }
 {
-    match forest.node(id) {
-        Some(node) => node.shape.symbol,
-        None => unreachable!(),
-    }
+    forest.node_of(id).shape.symbol
 }
 
 /// What the new grammar says of a node's symbol, whose rules are found. Takes memory where the symbol comes for the first
@@ -132,10 +129,7 @@ fn must_expand(forest: &Forest, id: NodeId, same_setting: bool, answers: &Answer
     ensures changed { (d : Seen) → node_at forest.now id ≡ Some d → result ≡ true → (d.node.kind ≡ Waiting) ⊎ ((same_setting ≡ true) × (d.node.answers ≡ answers.now) → ⊥) }
     ensures same { (d : Seen) → node_at forest.now id ≡ Some d → result ≡ false → (world.is_waiting d.node.kind ≡ false) × (same_setting ≡ true) × (d.node.answers ≡ answers.now) }
 {
-    match forest.node(id) {
-        Some(node) => is_changed(node, same_setting, answers),
-        None => unreachable!(),
-    }
+    is_changed(forest.node_of(id), same_setting, answers)
 }
 
 fn child_count(outcome: &Result<List<Emitted>, ShapeFault>) -> u16
@@ -153,10 +147,7 @@ fn asks_right(forest: &Forest, id: NodeId, said: Said) -> bool
     requires here { IsSome (node_at forest.now id) }
     ensures { (d : Seen) → node_at forest.now id ≡ Some d → result ≡ true → d.node.asks ≡ asks_any said }
 {
-    match forest.node(id) {
-        Some(node) => node.asks == said.asks(),
-        None => unreachable!(),
-    }
+    forest.node_of(id).asks == said.asks()
 }
 
 /// What a node is expanded to with these answers. Takes memory.
@@ -172,10 +163,8 @@ fn outcome_of<E: Ledger>(
     ensures few { IfOk result (λ made. length (emitted made) ≤ MOST_CHILDREN) }
     ensures ticked { expansions.new ≡ expansions.old + 1 }
 {
-    match work.forest.node(id) {
-        Some(node) => expand_by_place(work.alloc, &work.rules, &node.shape, answers, expansions),
-        None => unreachable!(),
-    }
+    let shape = &work.forest.node_of(id).shape;
+    expand_by_place(work.alloc, &work.rules, shape, answers, expansions)
 }
 
 /// A node is expanded. Takes memory.
@@ -195,7 +184,7 @@ fn expand_at<E: Ledger, T: Ledger>(
 {
     let outcome = outcome_of(work, id, &answers, expansions)?;
     let children = child_count(&outcome);
-    work.forest.laws();
+    work.forest.laws(); // for the proof
     place(work, id, answers, &outcome, tests)?;
     Ok(Turned {
         children,
@@ -217,7 +206,7 @@ fn place_again<T: Ledger>(
     ensures bounds { KeepsBounds work.entry.now work.exit.now }
 {
     let outcome = outcome_again(work.alloc, &work.forest, id)?;
-    work.forest.laws();
+    work.forest.laws(); // for the proof
     place(work, id, answers, &outcome, tests)?;
     Ok(NOT_EXPANDED)
 }
@@ -261,7 +250,7 @@ pub fn turn<E: Ledger, T: Ledger>(
     ensures counted { expansions.old ≤ expansions.new }
     ensures once { expansions.new ≤ expansions.old + 1 }
 {
-    work.forest.laws();
+    work.forest.laws(); // for the proof
     let worked = Worked {
         forest: &work.forest,
     };
