@@ -11,7 +11,7 @@ bl_info = {
     "blender": (3, 4, 0),
     "category": "Import-Export",
     "location": "View3D > Sidebar > cga_city",
-    "description": "Shows the town of a script, anew at each save and each move of a slider",
+    "description": "Shows the town of a script, again at each save and each move of a slider",
 }
 
 HERE = Path(__file__).resolve().parents[3]
@@ -71,7 +71,7 @@ class Preferences(bpy.types.AddonPreferences):
 
 
 class Follow(bpy.types.Operator):
-    """Shows the town of the script, anew at each save"""
+    """Shows the town of the script, again at each save"""
 
     bl_idname, bl_label = "cga_city.follow", "Follow"
 

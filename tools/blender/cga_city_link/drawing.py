@@ -13,7 +13,7 @@ class ByChanges:
         self.lots, self.stale = {}, []
 
     def begin(self):
-        """Another program tells everything anew; what stood before and isn't told again has gone."""
+        """Another program tells everything again; what stood before and isn't told again has gone."""
         self.lots, self.stale = {}, list(self.lots)
 
     def update(self, city):

@@ -86,7 +86,7 @@ class Link:
         self.updates.put(Update(lots, self.city.attributes(), self.city.stats(), said, time.monotonic() - begun))
 
     def save(self, text):
-        """Does the edits that a save comes to, or begins anew where it can't be said by such; tells what was refused."""
+        """Does the edits that a save comes to, or begins again from nothing if edits can't say it; tells what was refused."""
         try:
             commands = cga_city.cut(text)
         except cga_city.Refused as fault:

@@ -53,7 +53,7 @@ def put_texture(tree, shader, look):
 
 
 def show(lots, offset):
-    """Draws these lots anew, each as solids of a symbol, corners and faces; a lot without solids goes."""
+    """Draws these lots again, each as solids of a symbol, corners and faces; a lot without solids goes."""
     into = collection()
     objects = {thing[LOT]: thing for thing in into.objects if LOT in thing}
     for lot, solids in lots.items():
