@@ -17,5 +17,9 @@ pub use Rattle.cga_city.proofs.LotNodes.{before_strict}
 pub use Rattle.cga_city.proofs.Nodes.{among_has, filter_from, filter_to, has_among, is_of, lot_differs}
 -- Lists that rise by an order: a list of the same elements in order is that list
 pub use Rattle.cga_city.proofs.Sorting.{sorted_from, sorted_is, sorted_rises, sorted_to}
+-- What is drawn of one lot alone
+pub use Rattle.cga_city.proofs.Reporting.{one_drawn}
+-- What is drawn stands by the order of the lots
+pub use Rattle.cga_city.proofs.Standing.{own_drawn, stands}
 -- The sources of a city are valid
 pub use Rattle.cga_city.proofs.Valid.{sound_valid}

@@ -1,5 +1,6 @@
 mod Sorting
 mod Reporting
+mod Few
 mod Runs
 mod Names
 mod Plain

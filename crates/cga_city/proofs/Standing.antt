@@ -62,7 +62,7 @@ drawn_lot : (lot : List ℕ) (ms : List Member) → AllByRecursion (IsIn lot) ms
 drawn_lot lot [] h = tt
 drawn_lot lot (m ∷ ms) h = both (λ (d : Drawn). d.lot ≡ lot) (drawn_of m) (flat_map drawn_of ms) (drawn_as_in lot m.shape m.kind h.0) (drawn_lot lot ms h.1)
 
-own_drawn : (lot : List ℕ) (list : List Member)
+pub own_drawn : (lot : List ℕ) (list : List Member)
     → AllByRecursion (λ (d : Drawn). d.lot ≡ lot) (flat_map drawn_of (members_of lot list))
 own_drawn lot list =
     drawn_lot lot (members_of lot list) (sorted_all (IsIn lot) comes_before (filter (λ m. same_name m.shape.lot lot) list)

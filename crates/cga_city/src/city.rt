@@ -1,5 +1,5 @@
 //! The city.
-ghost use Rattle.std.specs.Prelude.{◌≡◌, ◌+◌, ◌<◌, ◌≤◌, [], IfOk, IfSome, IsOk, OnErr, OnOk, IsFalse, IsTrue, Some, bytes_eq, length, slice_get, true};
+ghost use Rattle.std.specs.Prelude.{◌≡◌, ◌+◌, ◌<◌, ◌≤◌, [], ◌∷◌, IfOk, IfSome, IsOk, OnErr, OnOk, IsFalse, IsTrue, Some, bytes_eq, is_some, length, slice_get, true};
 ghost use Rattle.std.specs.List.{IsDistinct};
 ghost use Rattle.cga_expand.specs.Run.{IsRun};
 ghost use Rattle.cga_obj.specs.Lots.{AreSolid, StandsBy};
@@ -7,15 +7,16 @@ ghost use Rattle.cga_city.specs.City.{EditGives, HandsOut, HasDistinctLots, IsWa
 ghost use Rattle.cga_city.specs.Derived.{derived, members};
 ghost use Rattle.cga_city.specs.Hulls.{IsHullOf};
 ghost use Rattle.cga_city.specs.Inside.{AreSound};
-ghost use Rattle.cga_city.specs.Lots.{names_of};
+ghost use Rattle.cga_city.specs.Lots.{lot_place, names_of};
 ghost use Rattle.cga_city.specs.Reports as spec;
 ghost use Rattle.cga_trace.specs.Text.{AreSteps};
 
 use crate::changed_sources::changed_sources;
 use crate::edited::Edited;
 use crate::empty::{empty_sources, no_changes, no_shapes};
+use crate::lots::lot_place;
 use crate::no_lot::NoLot;
-use crate::reports::{all_faults, told};
+use crate::reports::{all_faults, lot_drawn, told};
 use crate::within::within_budget;
 use cga_expand::Expansions;
 use cga_fraction::{List, NoMemory, Tests};
@@ -191,6 +192,24 @@ impl City {
         ensures solid { IfOk result (λ told. IfOk told AreSolid) }
     {
         told(self.alloc, &self.sources.lots, lot, &self.kept.forest)
+    }
+
+    /// Whether a lot has the name.
+    pub fn has_lot(&self, name: Name) -> bool
+        ensures { result ≡ is_some (lot_place name self.now.sources.lots) }
+    {
+        lot_place(&self.sources.lots, name).is_some()
+    }
+
+    /// What is drawn in the lot that is named, by paths; where no lot has the name, nothing. Takes memory, and no walk over
+    /// other lots.
+    pub fn lot_instances(&self, lot: Name) -> Result<List<Drawn>, NoMemory>
+        requires { IsTrue self.now.warm }
+        ensures value { IfOk result (λ drawn. drawn ≡ spec.drawn_in (lot ∷ []) (members self.now.budget self.now.sources)) }
+        ensures solid { IfOk result AreSolid }
+        ensures few { IfOk result (λ drawn. length drawn ≤ self.now.budget) }
+    {
+        lot_drawn(self.alloc, lot, &self.kept.forest)
     }
 
     /// The shapes that have no children, and why, in the same order. Takes memory.

@@ -148,7 +148,7 @@ fn all_drawn(alloc: Global, lots: &Lots, forest: &Forest) -> Result<List<Drawn>,
 }
 
 /// The instances of a lot.
-fn lot_drawn(alloc: Global, lot: Name, forest: &Forest) -> Result<List<Drawn>, NoMemory>
+pub(crate) fn lot_drawn(alloc: Global, lot: Name, forest: &Forest) -> Result<List<Drawn>, NoMemory>
     ensures { IfOk result (λ drawn. ForItsMembers forest.now (λ list. drawn ≡ spec.drawn_in (lot ∷ []) list)) }
 {
     let mut drawn = List::new(alloc);

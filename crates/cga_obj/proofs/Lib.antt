@@ -3,3 +3,4 @@ mod Instances
 mod Plain
 mod Runs
 mod Spans
+pub mod Door

@@ -74,7 +74,7 @@ pub record FirstRun (lot : List ℕ) (lots : List (List ℕ)) (drawn own left : 
   pub texts : (mesh : Shown) (decimals before : ℕ)
       → lots_text mesh decimals drawn before lots ≡ lots_text mesh decimals left before lots
 
-run_at : (lot : List ℕ) (lots : List (List ℕ)) (own rest : List Drawn)
+pub run_at : (lot : List ℕ) (lots : List (List ℕ)) (own rest : List Drawn)
     → AllByRecursion (λ y. bytes_eq lot y ≡ false) lots → IsDistinct bytes_eq lots
     → AllByRecursion (λ d. d.lot ≡ lot) own → StandsBy lots rest → FirstRun lot lots (own ++ rest) own rest
 run_at lot lots own rest a distinct h stands =

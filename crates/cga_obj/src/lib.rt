@@ -18,4 +18,4 @@ mod span;
 
 pub use faults::{fault_code, fault_text, push_path};
 pub use meshes::{Meshes, Solids};
-pub use obj::{obj_text, text_by};
+pub use obj::{obj_text, push_instances, text_by};

@@ -93,8 +93,8 @@ fn push_instance<M: Meshes>(
     push_shown(alloc, meshes, text, decimals, before, drawn)
 }
 
-// Adds these, and gives the number of vertices behind them.
-fn push_instances<M: Meshes>(
+/// Adds these, where so many vertices stand before them, and gives the number of vertices behind them. Takes memory.
+pub fn push_instances<M: Meshes>(
     alloc: Global,
     meshes: &M,
     text: &mut Text,

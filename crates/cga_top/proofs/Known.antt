@@ -45,3 +45,7 @@ appends_piece a b c done rest others bytes n e p q o =
 -- all was written, and a flush keeps it
 pub appends_all : (a b c : Option (List ℕ)) (bytes : List ℕ) → Appends a b bytes → Keeps b c → AppendsSome a c bytes
 appends_all a b c bytes p q = (length bytes, rw take-length (appends_kept a b c bytes p q))
+
+-- all of a text is some of it
+pub appends_some : (a b : Option (List ℕ)) (bytes : List ℕ) → Appends a b bytes → AppendsSome a b bytes
+appends_some a b bytes p = (length bytes, rw take-length p)

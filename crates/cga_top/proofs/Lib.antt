@@ -27,4 +27,7 @@ mod Given
 mod Tellings
 mod CityRuns
 mod LotByLot
+mod LotTexts
+mod OwnLots
+mod Printing
 pub mod Door

@@ -6,9 +6,11 @@ pub mod Stats
 pub mod Replies
 pub mod TooMany
 pub mod Output
+pub mod Prints
 pub mod Written
 pub mod Blocks
 pub mod Session
+pub mod Replied
 pub mod Ready
 pub mod Prefixes
 pub mod KeptPart

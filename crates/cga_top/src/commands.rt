@@ -9,7 +9,8 @@ use crate::dresses::{dress, undress};
 use crate::edits::{change, redo, undo};
 use crate::models::{model_city, model_lot};
 use crate::open_block::OpenBlock;
-use crate::reports::{bill, dump, faults, grammar, print_city, print_lot, stats};
+use crate::print_lots::print;
+use crate::reports::{bill, dump, faults, grammar, stats};
 use crate::session::Session;
 use crate::traces::trace;
 use cga_asset::AssetReader;
@@ -57,8 +58,7 @@ fn do_plain(session: &mut Session, command: &ScriptCommand) -> Result<List<u8>, 
         ScriptCommand::CityBlock => Ok(open(session, OpenBlock::City(CityReader::new(alloc)))),
         ScriptCommand::AssetBlock(name) => Ok(open_asset(session, *name)),
         ScriptCommand::JudgeBlock => Ok(open(session, OpenBlock::Judge(JudgeReader::new(alloc)))),
-        ScriptCommand::Print(None) => print_city(session),
-        ScriptCommand::Print(Some(lot)) => print_lot(session, *lot),
+        ScriptCommand::Print(name) => print(session, *name),
         ScriptCommand::Model(None) => model_city(session),
         ScriptCommand::Model(Some(lot)) => model_lot(session, *lot),
         ScriptCommand::Faults => faults(session),

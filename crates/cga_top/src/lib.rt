@@ -18,6 +18,7 @@ mod hulls;
 mod laws;
 mod models;
 mod open_block;
+mod print_lots;
 mod pump;
 mod read_end;
 mod reads;

@@ -1,25 +1,31 @@
-ghost use Rattle.std.specs.Prelude.{◌≡◌, ◌<◌, ◌≤◌, ◌++◌, ◌∷◌, None, OnOk, OnErr, IsTrue, [], length};
+ghost use Rattle.std.specs.Prelude.{◌≡◌, ◌<◌, ◌≤◌, ◌++◌, ◌∷◌, ℕ, None, OnOk, OnErr, IsTrue, [], length};
 ghost use Rattle.std.specs.Io.KnownBytes.{Appends, Keeps};
 ghost use Rattle.cga_outside.specs.Causes.{HasCause};
-ghost use Rattle.cga_script.specs.Lines.{cut, lines_of};
+ghost use Rattle.cga_script.specs.Lines.{Line, cut, lines_of};
 ghost use Rattle.cga_script.specs.Pending.{IsBlankFront, kept_of, ready_line};
 ghost use Rattle.cga_script.specs.declared.ending.Ending.TheVariants as ending;
 ghost use Rattle.cga_top.specs.State.{State};
 ghost use Rattle.cga_top.specs.Lived.{Begun, IsHere, Lived};
+ghost use Rattle.cga_top.specs.Replied.{Replied};
+ghost use Rattle.cga_top.specs.Replies.{begun, effect, printed};
+ghost use Rattle.cga_top.specs.Session.{IsAt};
+ghost use Rattle.cga_top.specs.Turns.{Talk};
 ghost use Rattle.cga_top.specs.Ready.{IsReady};
 ghost use Rattle.cga_top.specs.KeptPart.{IsKeptPart};
 ghost use Rattle.cga_top.specs.Prefixes.{AppendsSome};
 ghost use Rattle.cga_top.specs.Faults.{FaultsBy};
 
 use crate::halt::Halt;
+use crate::print_lots::write_print;
 use crate::session::Session;
 use crate::talker::Talker;
-use crate::turns::do_line;
+use crate::turns::{asks_print, do_line};
 use cga_expand::Expansions;
 use cga_fraction::{NoMemory, Tests};
 use cga_outside::{Failed, Sink};
 use cga_script::{Lines, blank_front};
 use cga_shape::Changes;
+use cga_word::Name;
 use std::alloc::Global;
 use std::sync::ledger::Ledger;
 
@@ -55,6 +61,78 @@ fn tell<W: Talker, K: Sink>(alloc: Global, changes: &Changes, out: &mut K) -> Re
     }
 }
 
+// Does what the line that is ready asks for, and writes the reply as one text.
+fn reply_as_text<K: Sink, E: Ledger, T: Ledger>(
+    session: &mut Session,
+    lines: &Lines,
+    out: &mut K,
+    expansions: &mut Expansions<E>,
+    tests: &mut Tests<T>,
+) -> Result<(), Halt>
+    requires { IsReady session.old }
+    ensures ok { (s : State) → IsAt s session.old
+        → OnOk result (Replied (effect s (ready_line lines.now)) session.old.city.changes session.new (K.held out.old) (K.held out.new)
+        expansions.old expansions.new) }
+    ensures err { (s : State) (told : Talk) → IsHere s session.old
+        → OnErr result (Begun told s (ready_line lines.now ∷ []) (K.held out.old) (K.held out.new)) }
+    ensures faults { FaultsBy result (K.faults out.old) (K.faults out.new) }
+    ensures ready { OnOk result (IsReady session.new) }
+{
+    let reply = match do_line(session, lines.line(), lines.is_long(), expansions, tests) {
+        Ok(reply) => reply,
+        Err(NoMemory) => return Err(Halt::NoMemory),
+    };
+    match write_all(out, reply.as_slice()) {
+        Ok(()) => Ok(()),
+        Err(Failed) => Err(Halt::WriteFault),
+    }
+}
+
+// The same of a line that asks to print, lot by lot.
+fn reply_by_lots<K: Sink>(
+    session: &mut Session,
+    out: &mut K,
+    name: Option<Name>,
+) -> Result<(), Halt>
+    requires { IsReady session.old }
+    ensures ok { (s : State) (line : Line) (n : ℕ) → IsAt s session.old → effect s line ≡ printed (begun s) name
+        → OnOk result (Replied (effect s line) session.old.city.changes session.new (K.held out.old) (K.held out.new) n n) }
+    ensures err { (s : State) (line : Line) (told : Talk) → IsHere s session.old → effect s line ≡ printed (begun s) name
+        → OnErr result (Begun told s (line ∷ []) (K.held out.old) (K.held out.new)) }
+    ensures faults { FaultsBy result (K.faults out.old) (K.faults out.new) }
+    ensures ready { OnOk result (IsReady session.new) }
+{
+    session.fresh = false;
+    match write_print(session, out, name) {
+        Ok(()) => Ok(()),
+        Err(halt) => Err(halt),
+    }
+}
+
+// Does what the line that is ready asks for, and writes the reply.
+fn reply_line<K: Sink, E: Ledger, T: Ledger>(
+    session: &mut Session,
+    lines: &Lines,
+    out: &mut K,
+    expansions: &mut Expansions<E>,
+    tests: &mut Tests<T>,
+) -> Result<(), Halt>
+    requires { IsReady session.old }
+    ensures ok { (s : State) → IsAt s session.old
+        → OnOk result (Replied (effect s (ready_line lines.now)) session.old.city.changes session.new (K.held out.old) (K.held out.new)
+        expansions.old expansions.new) }
+    ensures err { (s : State) (told : Talk) → IsHere s session.old
+        → OnErr result (Begun told s (ready_line lines.now ∷ []) (K.held out.old) (K.held out.new)) }
+    ensures faults { FaultsBy result (K.faults out.old) (K.faults out.new) }
+    ensures ready { OnOk result (IsReady session.new) }
+{
+    match asks_print(session, lines.line(), lines.is_long()) {
+        Ok(Some(name)) => reply_by_lots(session, out, name),
+        Ok(None) => reply_as_text(session, lines, out, expansions, tests),
+        Err(NoMemory) => Err(Halt::NoMemory),
+    }
+}
+
 /// Does what the line that is ready asks for, and writes the reply and what is told of its changes, which are forgotten then.
 pub(crate) fn take_line<W: Talker, K: Sink, E: Ledger, T: Ledger>(
     session: &mut Session,
@@ -73,13 +151,9 @@ pub(crate) fn take_line<W: Talker, K: Sink, E: Ledger, T: Ledger>(
     ensures ready { OnOk result (IsReady session.new) }
     ensures lines { OnOk result (lines.new ≡ record { kept = []; ending = ending.Open }) }
 {
-    let reply = match do_line(session, lines.line(), lines.is_long(), expansions, tests) {
-        Ok(reply) => reply,
-        Err(NoMemory) => return Err(Halt::NoMemory),
-    };
-    match write_all(out, reply.as_slice()) {
+    match reply_line(session, lines, out, expansions, tests) {
         Ok(()) => {}
-        Err(Failed) => return Err(Halt::WriteFault),
+        Err(halt) => return Err(halt),
     }
     match tell::<W, _>(session.alloc, session.changes(), out) {
         Ok(()) => {}

@@ -1,4 +1,4 @@
-ghost use Rattle.std.specs.Prelude.{◌≡◌, ◌++◌, IfOk, None, OnOk, Some};
+ghost use Rattle.std.specs.Prelude.{◌≡◌, ◌++◌, IfOk, OnOk};
 ghost use Rattle.cga_bill.specs.Bill.{bill_of};
 ghost use Rattle.cga_bill.specs.Texts.{bill_text_of};
 ghost use Rattle.cga_obj.specs.Faults.{fault_text_of};
@@ -8,17 +8,16 @@ ghost use Rattle.cga_script.specs.Dumps.{dump_of};
 ghost use Rattle.cga_syntax.specs.GrammarText.{grammar_text};
 ghost use Rattle.cga_top.specs.State.{State};
 ghost use Rattle.cga_top.specs.Stats.{stats_text_of};
-ghost use Rattle.cga_top.specs.Replies.{printed, dumped, derived, counts_of, drawn_by};
+ghost use Rattle.cga_top.specs.Replies.{dumped, derived, counts_of, drawn_by};
 ghost use Rattle.cga_top.specs.Session.{IsAt, Says};
 ghost use Rattle.cga_top.specs.Ready.{IsReady};
 
 use crate::session::Session;
 use crate::stats::stats_text;
-use cga_city::NoLot;
 use cga_fraction::{List, NoMemory};
-use cga_obj::{fault_text, obj_text};
+use cga_obj::fault_text;
 use cga_script::{Refused, dump_text, refusal_text};
-use cga_shape::{EditRefused, Lot, Lots};
+use cga_shape::{Lot, Lots};
 use cga_syntax::print_grammar;
 use cga_word::Name;
 use std::alloc::Global;
@@ -41,39 +40,6 @@ pub(crate) fn names(alloc: Global, lots: &Lots) -> Result<List<Name>, NoMemory>
         push_names(&mut names, run.as_slice())?;
     }
     Ok(names)
-}
-
-/// The OBJ text of the city. Takes memory.
-pub(crate) fn print_city(session: &Session) -> Result<List<u8>, NoMemory>
-    requires { IsReady session.now }
-    ensures { (s : State) → IsAt s session.now → IfOk result (Says (printed s None)) }
-{
-    let names = names(session.alloc, session.city.lots())?;
-    match session.city.instances(None)? {
-        Ok(drawn) => obj_text(
-            session.alloc,
-            names.as_slice(),
-            drawn.as_slice(),
-            session.decimals.get(),
-        ),
-        Err(NoLot) => unreachable!(),
-    }
-}
-
-/// The OBJ text of one lot, where it is there. Takes memory.
-pub(crate) fn print_lot(session: &Session, lot: Name) -> Result<List<u8>, NoMemory>
-    requires { IsReady session.now }
-    ensures { (s : State) → IsAt s session.now → IfOk result (Says (printed s (Some lot))) }
-{
-    match session.city.instances(Some(lot))? {
-        Ok(drawn) => obj_text(
-            session.alloc,
-            &[lot],
-            drawn.as_slice(),
-            session.decimals.get(),
-        ),
-        Err(NoLot) => refusal_text(session.alloc, &Refused::Edit(EditRefused::NoLot(lot))),
-    }
 }
 
 /// The list of faults. Takes memory.

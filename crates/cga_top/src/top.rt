@@ -251,8 +251,8 @@ fn run_town<K: Sink, E: Ledger, T: Ledger>(
 /// Replies to a script, each line as it is complete. The words are the whole command line, the program's name
 /// first: `--decimals N`, 0 to 9, and `--town N`, 1 to 200, with which the script is that of the town and the source
 /// isn't read. The source is read in pieces of at most 4,096 bytes, and no more than 67,108,864 bytes of it are
-/// replied to. The memory that is taken grows with the city, the longest reply and the block that is being read, and not
-/// with the rest of the script.
+/// replied to. The memory that is taken grows with the city, the longest reply other than a print and the block that is
+/// being read, and not with the rest of the script.
 ///
 /// What a read completes is replied to, and the replies are flushed, before the next read. That is tested: no
 /// clause ties the reads of the source to the flushes of the sink.

@@ -1,7 +1,8 @@
-ghost use Rattle.std.specs.Prelude.{◌≡◌, ◌&&◌, IfOk, OnOk, ℕ};
+ghost use Rattle.std.specs.Prelude.{◌≡◌, ◌&&◌, IfOk, IfSome, Ok, OnOk, ℕ};
 ghost use Rattle.cga_script.specs.Ends.{is_version_line};
+ghost use Rattle.cga_script.specs.declared.script_command.ScriptCommand.TheVariants.{Print};
 ghost use Rattle.cga_top.specs.State.{State, Block};
-ghost use Rattle.cga_top.specs.Replies.{effect, outside, asked, is_blank, closed, ended, second};
+ghost use Rattle.cga_top.specs.Replies.{effect, outside, asked, begun, is_blank, closed, ended, printed, second};
 ghost use Rattle.cga_top.specs.Session.{IsAt, IsOpenAs, Did};
 ghost use Rattle.cga_top.specs.Ready.{IsReady, HasRead};
 ghost use Rattle.cga_top.specs.Written.{IsWritten, AsksWritten};
@@ -24,6 +25,7 @@ use cga_script::{
 };
 use cga_shape::Edit;
 use cga_undo::History;
+use cga_word::Name;
 use std::sync::ledger::Ledger;
 
 // The line that makes the version 2 has come.
@@ -87,6 +89,35 @@ fn do_asked<E: Ledger, T: Ledger>(
             refusal_text(session.alloc, &Refused::Line(fault))
         }
     }
+}
+
+// What a command prints, where that is what it asks for.
+fn printed_by(told: &Result<ScriptCommand, LineFault>) -> Option<Option<Name>>
+    ensures { IfSome result (λ name. told.now ≡ Ok (Print name)) }
+{
+    match told {
+        Ok(ScriptCommand::Print(name)) => Some(*name),
+        _ => None,
+    }
+}
+
+/// What a line asks to print, where it stands outside a block and begins with that word: the city, or one lot.
+pub(crate) fn asks_print(
+    session: &Session,
+    line: &[u8],
+    long: bool,
+) -> Result<Option<Option<Name>>, NoMemory>
+    ensures { (s : State) → IsAt s session.now → IfOk result (λ asked. IfSome asked (λ name.
+        effect s (record { bytes = line.now; long = long }) ≡ printed (begun s) name)) }
+{
+    if session.block.is_some() || !line.starts_with(b"print") {
+        return Ok(None);
+    }
+    if is_second(session, line, long)? {
+        return Ok(None);
+    }
+    let told = command(session.alloc, line, long, session.version)?;
+    Ok(printed_by(&told))
 }
 
 // Does what a line outside a block asks for.
