@@ -151,7 +151,7 @@ def main():
         "Script",
         "By the clock",
         "Processor",
-        "With shadows anew",
+        "With new shadows",
         "Pictures",
     ]
     tables.tell(tables.table(head, rows), told.page)

@@ -50,7 +50,7 @@ WATCH = """(() => {
 FRAME = "(() => { drawn(); const from = performance.now(); draw(); drawn(); return performance.now() - from; })()"
 SENT = "performance.getEntriesByType('resource').reduce((sum, one) => sum + one.encodedBodySize, 0)"
 TICK = os.sysconf("SC_CLK_TCK")
-FIRST = ["Lots", "Triangles", "First picture", "Python", "Bytes sent", "A picture anew"]
+FIRST = ["Lots", "Triangles", "First picture", "Python", "Bytes sent", "A picture again"]
 SAVES = ["Lots", "Save", "Python", "Bytes sent", "There: least, middle", "Aim", "Drawn: least, middle"]
 MEMORY = ["Lots", "Page behind one edit of all", "Page behind ten", "Preview behind one", "Preview behind ten"]
 AIMS = {  # thousandths of a second by kind of save

@@ -2,7 +2,7 @@
 """Times programs on scripts of one kind of work each: the least user time of three runs, or the mean of ten short ones, and
 the most memory. A program reads a script on standard input. Of work that is repeated in one script, the time of one is told,
 and of reports the bytes of a second. Memory of less than some 20 MB is told as that, which this script itself takes. What a
-program doesn't take has a dash. "Times plain" is how often a time is that of the plain program, which derives all anew.
+program doesn't take has a dash. "Times plain" is how often a time is that of the plain program, which derives all again.
 """
 import argparse
 import os
@@ -17,7 +17,7 @@ from works import EDIT, REPORT, town, works
 
 PLAIN = Path(__file__).resolve().parent / "plain" / "main.rs"
 SHORT = 0.05  # seconds of which the user's part is known by few ticks of a clock
-PLAIN_EDITS = 4  # so many are enough for a program that derives all anew for each
+PLAIN_EDITS = 4  # so many are enough for a program that derives all again for each
 
 Spent = namedtuple("Spent", "seconds megabytes")
 
@@ -133,7 +133,7 @@ def main():
     parser.add_argument(
         "--plain",
         action="store_true",
-        help="beside them bench/plain, compiled by rustc: no proofs, and all derived anew after each edit",
+        help="beside them bench/plain, compiled by rustc: no proofs, and all derived again after each edit",
     )
     parser.add_argument("--rows", default="", metavar="TEXT", help="only works that have this in their names")
     words = parser.parse_args()
