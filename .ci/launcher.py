@@ -31,12 +31,16 @@ class Words(Copy):
         self.check("the usage comes first", self.err.splitlines()[0] == "usage: cga_city [--decimals N] [--town N]")
         for words, why in (
             ("--decimals 10", "from 0 to 9, and not '10'"),
-            ("--decimals", "from 0 to 9"),
+            ("--decimals", "from 0 to 9, and none is given"),
             ("--decimals 1 --decimals 1", "twice"),
             ("--town 0", "from 1 to 200"),
             ("--town 201", "from 1 to 200"),
             ("--town 2 x", "x is none"),
-            ("--prove x", "--prove is none"),
+            ("--prove --quick", "--prove stands alone, and '--quick' stands beside it"),
+            ("--version now", "--version stands alone, and 'now' stands beside it"),
+            ("--decimals 3 --proved", "--proved stands alone, and '--decimals' stands beside it"),
+            ("--help me", "--help stands alone, and 'me' stands beside it"),
+            ("--decimals 3 --build", "--build stands first"),
             ("--build cga_word", "takes the names cga_main, and not 'cga_word'"),
         ):
             self.call(*words.split())

@@ -14,7 +14,8 @@ from collections import namedtuple
 from functools import lru_cache
 from pathlib import Path
 
-from .call import Refused
+from .call import Refused, WrongFile
+from .strangers_text import shown
 
 VARIABLE = "CGA_COLOURS"
 KNOWN = Path(__file__).parent / "colours.json"
@@ -40,6 +41,19 @@ def shade_of(symbol):
     """Red, green and blue, and the number of the material."""
     look = look_of(symbol)
     return [*look.colour, MATERIALS.index(look.material)]
+
+
+def colour_files(own=None):
+    """The file of colours of one's own, where there is one, and the textures that it names and that are there."""
+    path = own or os.environ.get(VARIABLE)
+    if not path:
+        return []
+    if not own and not os.path.isfile(path):
+        raise WrongFile(
+            f"{VARIABLE} names {shown(path)}, and no such file is there: name one that is, or take {VARIABLE} away"
+        )
+    textures = [str(look.texture) for look in looks_of(path).own.values() if look.texture]
+    return [path, *filter(os.path.isfile, textures)]
 
 
 class Looks:

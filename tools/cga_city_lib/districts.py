@@ -1,10 +1,9 @@
 """What tools/districts does for each of its words. It is called often, so what one word alone needs is loaded for that word."""
-import argparse
 import os
 import sys
 from pathlib import Path
 
-from .call import FirstWord, Refused, number_in
+from .call import FirstWord, Refused, WrongValue, number_in
 from .changed_cut import Wanted, changed_cut
 from .checking import bill_text
 from .compared import Compared
@@ -16,7 +15,7 @@ from .jobs import Cut, Program, cut_again, leftovers, tiles_to_make, todo
 from .map_facts import MapFacts
 from .of_plan import line_of, of_others, take_others_away
 from .plan import Options, digest, read_plan
-from .program import MOST_LOTS, is_proved, ready
+from .program import MOST_LOTS, is_proved, program_word, ready
 from .quadtree import EDGE
 from .region import Region
 from .over_angles import sentence, unseen_pairs, unseen_text
@@ -238,7 +237,7 @@ def is_length(word):
 def length(word):
     """A length as it is spelt, which is read exactly."""
     if not is_length(word):
-        raise argparse.ArgumentTypeError(f"`{told(word)}` isn't a number from 0 on that scripts can have")
+        raise WrongValue(f"`{told(word)}` isn't a number from 0 on that scripts can have")
     return word
 
 
@@ -247,14 +246,14 @@ def add_folder(known):
 
 
 def add_cut(known):
-    known.add_argument("script")
+    known.add_argument("script", reads=True)
     add_folder(known)
     known.add_argument("--lots", type=number_in(1, MOST_LOTS, int), default=500)
     known.add_argument("--reach", type=length, default="0")
     known.add_argument("--rings", type=number_in(0, 64, int), default=0)
     known.add_argument("--decimals", type=decimals, default=[])
     known.add_argument("--coarser", nargs=2, action="append", default=[])
-    known.add_argument("--program")
+    known.add_argument("--program", type=program_word)
     known.add_argument("--ground", type=Path)
 
 

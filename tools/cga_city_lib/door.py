@@ -1,5 +1,4 @@
 """The one door of the tools: a town from a script, which a program derives, or from the OBJ text that a run printed."""
-import argparse
 import gc
 import os
 import re
@@ -8,15 +7,15 @@ from functools import lru_cache
 from itertools import islice
 from typing import Dict, List, Optional, Tuple
 
-from .call import Refused, Words, said
+from .call import Namespace, Refused, Words, WrongValue, said
 from .given import Given, given
 from .instances import PLACES, Lots, from_told, printed
 from .live import tells_changes
-from .numerals import numeral
+from .numerals import DIGITS, is_too_long, numeral
 from .obj import Town
 from .obj_instances import from_obj, from_town
 from .pipe import Ended
-from .program import LAUNCHER, ready
+from .program import LAUNCHER, program_word, ready
 from .session import Session
 from .strangers_text import told as shown
 from .told_town import Script, check_settings, refusals, script_of, told_by
@@ -52,17 +51,19 @@ def setting(word: str) -> str:
     """NAME=NUMBER as a line `attr` has it."""
     name, _, value = word.partition("=")
     number = numeral(value)
+    if is_too_long(value):
+        raise WrongValue(f"`{shown(word)}` is out of range: a script's numbers have {DIGITS} digits at most")
     if not re.fullmatch(r"[A-Za-z_]\w*", name, re.ASCII) or number is None:
-        raise argparse.ArgumentTypeError(f"`{shown(word)}` isn't NAME=NUMBER, such as storey=3 or storey=7/2")
+        raise WrongValue(f"`{shown(word)}` isn't NAME=NUMBER, such as storey=3 or storey=7/2")
     return f"{name} = {number}"
 
 
 def add_words(known: Words) -> None:
     known.add_argument("--set", action="append", type=setting, default=[])
-    known.add_argument("--program")
+    known.add_argument("--program", type=program_word)
 
 
-def opened(path: str, words: argparse.Namespace, is_ordered: bool = True, is_bare: bool = False) -> Opened:
+def opened(path: str, words: Namespace, is_ordered: bool = True, is_bare: bool = False) -> Opened:
     """The town of a script at its end, or the last one of an OBJ text; solids in the order of `print`, where that is wanted.
     A bare one has solids also where the script dresses their symbols, if the program tells instances."""
     if path in KEPT and not is_ordered:
@@ -72,15 +73,15 @@ def opened(path: str, words: argparse.Namespace, is_ordered: bool = True, is_bar
     return read(found, words, is_ordered, is_bare)
 
 
-def opened_both(old: str, new: str, words: argparse.Namespace) -> Tuple[Opened, Opened]:
+def opened_both(old: str, new: str, words: Namespace) -> Tuple[Opened, Opened]:
     """Two towns; it is the second one whose attributes are set."""
     before, after = given(old), given(new)
     check_words(words, after, before)
-    without = argparse.Namespace(**{**vars(words), "set": []})
+    without = Namespace(**{**vars(words), "set": []})
     return read(before, without, False), read(after, words, False)
 
 
-def check_words(words: argparse.Namespace, found: Given, *others: Given) -> None:
+def check_words(words: Namespace, found: Given, *others: Given) -> None:
     """Refuses words of scripts where only OBJ texts are given."""
     if words.set and not found.is_script:
         raise Refused(f"{found.path} is an OBJ text, and --set goes with a script")
@@ -88,7 +89,7 @@ def check_words(words: argparse.Namespace, found: Given, *others: Given) -> None
         raise Refused(f"{found.path} is an OBJ text, and --program goes with a script")
 
 
-def read(found: Given, words: argparse.Namespace, is_ordered: bool, is_bare: bool = False) -> Opened:
+def read(found: Given, words: Namespace, is_ordered: bool, is_bare: bool = False) -> Opened:
     """Reads the town, which has many small objects, and no ring of them that would have to be looked for."""
     gc.disable()
     try:
@@ -100,10 +101,11 @@ def read(found: Given, words: argparse.Namespace, is_ordered: bool, is_bare: boo
         gc.enable()
 
 
-def opened_drawn(path: str, words: argparse.Namespace, is_ordered: bool = True, is_bare: bool = False) -> Opened:
+def opened_drawn(path: str, words: Namespace, is_ordered: bool = True, is_bare: bool = False) -> Opened:
     found = opened(path, words, is_ordered, is_bare)
     if not any(found.lots.values()):
-        raise Refused(f"nothing is drawn in {path}")
+        cure = f"tools/lint {path} tells what comes to nothing" if found.given.is_script else "no lot of it has a solid"
+        raise Refused(f"nothing is drawn in {path}: {cure}")
     return found
 
 
@@ -115,13 +117,14 @@ def teller(program: Optional[str]) -> Optional[str]:
     return program if tells_changes(program) else None
 
 
-def scripted(found: Given, words: argparse.Namespace, is_ordered: bool, is_bare: bool) -> Opened:
+def scripted(found: Given, words: Namespace, is_ordered: bool, is_bare: bool) -> Opened:
     script = script_of(found.path, found.data, words.set)
     program = None if script.is_dressed() and not is_bare else teller(words.program)
     if program is None:
         return Opened(found, *from_town(asked(script, words.program or str(LAUNCHER))))
     told = told_by(program, script, is_ordered)
     tell(script, told.answers)
+    tell_faults(script, told.faults)
     opened = Opened(found, from_told(told), PLACES)
     opened.ids, opened.told = ids_of(opened.lots, told.ids), (script, told.answers)
     return opened
@@ -138,13 +141,23 @@ def asked(script: Script, program: str) -> Town:
     """The town that a program prints, dressed where its symbols are."""
     session = Session(program)
     try:
-        _, _, answers, _, town = session.ask(script.lines)
+        _, _, answers, faults, town = session.ask(script.lines)
     except Ended as fault:
         raise Refused(f"{script.path}: there is no answer: {fault}") from None
     finally:
         session.close()
     tell(script, answers)
+    tell_faults(script, len(faults))
     return town
+
+
+def tell_faults(script: Script, number: int) -> None:
+    """Says how many shapes came to nothing."""
+    if number:
+        many = "1 shape comes" if number == 1 else f"{number:,} shapes come"
+        more = ", once the values of --set stand in it" if script.settings else ""
+        text = f"{script.path}: {many} to nothing: tools/lint {script.path} tells which and why{more}"
+        said(os.path.basename(sys.argv[0]), text)
 
 
 def tell(script: Script, answers: List[List[str]]) -> None:

@@ -1,7 +1,7 @@
-"""Values of words that several tools for drawings and tables take; a wrong one is a ValueError, as argparse wants it."""
-import argparse
+"""Values of words that several tools for drawings and tables take; a wrong one is a ValueError."""
 from typing import Tuple
 
+from .call import WrongValue
 from .drawing import FAR, Point
 from .strangers_text import told
 from .table_rows import fraction_word
@@ -14,16 +14,16 @@ def line(word: str) -> Tuple[Point, Point]:
     except ValueError:
         numbers = []
     if len(numbers) != 4 or not all(abs(number) < FAR for number in numbers):
-        raise argparse.ArgumentTypeError(f"`{told(word)}` isn't X,Z,X,Z, such as 0,4,20,4: two points as four numbers")
+        raise WrongValue(f"`{told(word)}` isn't X,Z,X,Z, such as 0,4,20,4: two points as four numbers")
     if numbers[:2] == numbers[2:]:
-        raise argparse.ArgumentTypeError(f"`{told(word)}` is a line of no length: give two points that differ")
+        raise WrongValue(f"`{told(word)}` is a line of no length: give two points that differ")
     return (numbers[0], numbers[1]), (numbers[2], numbers[3])
 
 
 def wall(word: str) -> Tuple[str, float]:
     """SYMBOL=0.3, a thickness."""
     symbol, _, text = word.rpartition("=")
-    thickness = fraction_word(text)
-    if not symbol or not 0 < thickness < 100:
-        raise ValueError
+    thickness = fraction_word(text) if symbol else 0
+    if not 0 < thickness < 100:
+        raise WrongValue(f"`{told(word)}` isn't SYMBOL=LENGTH, such as wall=0.3: a thickness above 0 and below 100")
     return symbol, float(thickness)

@@ -1,8 +1,8 @@
 """The town of a tool that draws meshes of one's own: its solids, and the mesh of each symbol that has one."""
-from argparse import Namespace
 from pathlib import Path
 from typing import Tuple
 
+from .call import Namespace
 from .door import Opened, opened_drawn
 from .instances import symbols
 from .own_meshes import Meshes, check_drawn, dressed_by, read, read_said, said_in

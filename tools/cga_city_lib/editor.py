@@ -1,10 +1,11 @@
 """The editor that is opened at a line of the script, by a command that the user says."""
-import argparse
 import os
 import shlex
 import subprocess
 import threading
 from typing import List
+
+from .call import WrongValue
 
 HELP = "say a command with {file} and perhaps {line}, as 'code -g {file}:{line}'"
 
@@ -14,9 +15,9 @@ def command(text: str) -> List[str]:
     try:
         words = shlex.split(text)
     except ValueError:
-        raise argparse.ArgumentTypeError(f"a quote in it isn't closed: {HELP}") from None
+        raise WrongValue(f"a quote in it isn't closed: {HELP}") from None
     if not any("{file}" in word for word in words):
-        raise argparse.ArgumentTypeError(f"it doesn't name the file: {HELP}")
+        raise WrongValue(f"it doesn't name the file: {HELP}")
     return words
 
 

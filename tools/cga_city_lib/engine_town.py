@@ -1,10 +1,10 @@
 """What tools/glb and tools/usda are given: a town with its setting, the symbols that are drawn by instances, meshes of one's own, and
 where on Earth it is."""
 import os
-from argparse import ArgumentParser, Namespace
 from typing import Any, Dict, List, Mapping, NamedTuple, Sequence, Set
 
 from . import door, own_meshes, setting
+from .call import Namespace, Words
 from .colours import VARIABLE
 from .dressed_town import opened_dressed
 from .globe import place_told
@@ -33,13 +33,14 @@ class EngineTown(NamedTuple):
         return f"{number:,} lots, {setting.told(self.setting)}{more}"
 
 
-def add_words(known: ArgumentParser, target: str) -> None:
-    known.add_argument("town")
-    known.add_argument("target", metavar=target)
+def add_words(known: Words, target: str, *endings: str) -> None:
+    known.add_argument("town", reads=True)
+    known.add_argument("target", metavar=target, writes=endings)
+    known.more_files = own_meshes.files_of
     known.add_argument("--instances", action="store_true")
     known.add_argument("--instance", action="append", default=[])
-    known.add_argument("--ground")
-    known.add_argument("--colours")
+    known.add_argument("--ground", reads=True)
+    known.add_argument("--colours", reads=True)
     own_meshes.add_words(known)
     setting.add_words(known)
     door.add_words(known)

@@ -6,6 +6,7 @@ import sys
 from contextlib import contextmanager
 
 from .call import Refused
+from .given_files import Unwritten
 
 PIECE = 1 << 20  # bytes that are compared at once
 
@@ -67,9 +68,7 @@ def naming(path, part=None):
     try:
         yield
     except OSError as fault:
-        if fault.filename in (None, part):
-            fault.filename = str(path)
-        raise
+        raise Unwritten(fault.errno, fault.strerror, str(path) if fault.filename in (None, part) else fault.filename)
 
 
 def can_write(folder):

@@ -40,7 +40,7 @@ def ids(lots, steps):
     found = traced(steps)
     for lot, solids in lots.items():
         if [symbol for _, symbol in found.get(lot, [])] != [solid.symbol for solid in solids]:
-            raise Refused(f"the trace has other solids of lot {lot!r} than the town: {ADVICE}")
+            raise Refused(f"the trace has other solids of lot `{lot}` than the town: {ADVICE}")
     return {lot: [f"{lot}/{'/'.join(map(str, path))}" for path, _ in found.get(lot, [])] for lot in lots}
 
 

@@ -1,5 +1,4 @@
 """What tools/region does: begins the jobs of a region that was cut, replies to lines on standard input, and keeps what it accepted."""
-import argparse
 import shlex
 import sys
 from hashlib import sha256
@@ -7,7 +6,7 @@ from itertools import cycle
 from pathlib import Path
 from typing import Any, Iterator, List
 
-from .call import Refused, Words
+from .call import Refused, Words, WrongValue
 from .findings import Findings
 from .files import alone
 from .jobs import SCRIPT, Program
@@ -18,7 +17,7 @@ from .kept_region import KeptRegion, RefusedByJob
 from .kept_sources import Sources, lot_of
 from .live import tells_changes
 from .plan import read_plan
-from .program import ready
+from .program import program_word, ready
 from .region import Region
 from .strangers_text import told
 from .told_boxes import NotTold
@@ -29,8 +28,8 @@ def words() -> Words:
     known.add_argument("folder", type=Path)
     known.add_argument("--by", type=words_before, action="append", default=[])
     known.add_argument("--changes", action="store_true")
-    known.add_argument("--program")
-    known.add_argument("--hulls")
+    known.add_argument("--program", type=program_word)
+    known.add_argument("--hulls", type=program_word)
     return known
 
 
@@ -39,7 +38,7 @@ def words_before(word: str) -> List[str]:
     try:
         return shlex.split(word)
     except ValueError:
-        raise argparse.ArgumentTypeError(f"`{told(word)}` isn't words of a shell: a quotation has no end") from None
+        raise WrongValue(f"`{told(word)}` isn't words of a shell: a quotation has no end") from None
 
 
 def main(given: Any) -> None:

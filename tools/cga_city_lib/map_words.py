@@ -2,36 +2,39 @@
 from decimal import Decimal, InvalidOperation
 from typing import Tuple
 
-from .call import Words, number_in
+from .call import Words, WrongValue, number_in
 from .fitting import FITS
 from .lot_list import COMPASS
 from .numerals import numeral
-from .program import LAUNCHER
+from .program import LAUNCHER, program_word
 from .reference_system import METRES
+from .strangers_text import told
 
 
 def pair(word: str) -> Tuple[str, str]:
     name, _, text = word.partition("=")
     if not name.isidentifier() or numeral(text) is None:
-        raise ValueError
+        raise WrongValue(f"`{told(word)}` isn't NAME=NUMBER, such as floors=3")
     return name, numeral(text)
 
 
 def point(word: str) -> Tuple[Decimal, Decimal]:
     try:
-        east, north = map(Decimal, word.split(","))
+        numbers = list(map(Decimal, word.split(",")))
     except InvalidOperation:
-        raise ValueError from None
-    if not (east.is_finite() and north.is_finite()):
-        raise ValueError
-    return east, north
+        numbers = []
+    if len(numbers) != 2 or not all(number.is_finite() for number in numbers):
+        raise WrongValue(
+            f"`{told(word)}` isn't X,Y, such as 8.54,47.37: a longitude and a latitude, or an east and a north"
+        )
+    return numbers[0], numbers[1]
 
 
 def add_map_words(known: Words) -> None:
-    known.add_argument("map")
-    known.add_argument("rules")
-    known.add_argument("--list")
-    known.add_argument("--ground")
+    known.add_argument("map", reads=True)
+    known.add_argument("rules", reads=True)
+    known.add_argument("--list", writes=(".csv",))
+    known.add_argument("--ground", writes=(".json",))
     known.add_argument("--front", choices=COMPASS)
     known.add_argument("--fit", choices=FITS, default="around")
     known.add_argument("--symbol")
@@ -44,4 +47,4 @@ def add_map_words(known: Words) -> None:
     known.add_argument("--decimals", type=number_in(0, 6, int), default=2)
     known.add_argument("--snap", type=number_in(0, 100), default=0.02)
     known.add_argument("--tolerance", type=number_in(0, 45), default=0.1)
-    known.add_argument("--program", default=str(LAUNCHER))
+    known.add_argument("--program", type=program_word, default=str(LAUNCHER))

@@ -16,6 +16,12 @@ def numeral(value):
     return decimal(text)
 
 
+def is_too_long(text):
+    """Whether it spells a number, and one with more digits than a script takes."""
+    is_number = re.fullmatch(r"-?\d+(\.\d+|/\d+)?", text, re.ASCII) is not None
+    return is_number and numeral(text) is None and sum(map(str.isdigit, text)) > DIGITS
+
+
 def decimal(text):
     try:
         number = Decimal(text) if text.isascii() and "_" not in text else None

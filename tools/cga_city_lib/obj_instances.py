@@ -7,6 +7,7 @@ from .forms import Faces, Form
 from .instances import Corner, Instance, Lots
 from .obj import Solid, Town
 from .progress import counted
+from .strangers_text import told
 
 RUN = "# cga_city obj\n"
 FARTHEST = 10**12
@@ -144,8 +145,8 @@ def whole(number: int, text: Tuple[str, ...], places: int) -> Tuple[int, int, in
         if not all(part.is_finite() and abs(part) < FARTHEST for part in (x, y, z)):
             raise ValueError
     except (ValueError, InvalidOperation):
-        told = " ".join(text)[:60]
-        raise Refused(f"vertex {number} hasn't three numbers below {FARTHEST:.0e} as coordinates: {told!r}") from None
+        found = told(" ".join(text))
+        raise Refused(f"vertex {number} hasn't three numbers below {FARTHEST:.0e} as coordinates: `{found}`") from None
     return steps_of(x, places), steps_of(y, places), steps_of(z, places)
 
 

@@ -4,12 +4,13 @@ import shlex
 import sys
 import time
 from pathlib import Path
-from typing import Any, Callable, List, Mapping, NamedTuple, Optional, Sequence
+from typing import Any, Callable, Dict, List, Mapping, NamedTuple, Optional, Sequence, Tuple
 
 from .call import WrongWord
 from .door import KEPT, Opened
 from .files import write
 from .given import Given
+from .given_files import Target
 from .guarded import INTERRUPTED
 from .instances import PLACES
 from .kept_instances import KeptInstances
@@ -54,6 +55,19 @@ def output_of(word: str) -> Output:
         if path.lower().endswith(ending):
             return Output(path, tool, more, is_printed)
     raise WrongWord(f"{told(path)} has to end in {', '.join(list(MAKERS)[:-1])} or {list(MAKERS)[-1]}")
+
+
+def files_of(words: Any) -> Tuple[List[str], List[Target]]:
+    """The files that are made; each has an ending of its tool."""
+    return [], [(output_of(word).path, ()) for word in words.outputs]
+
+
+def check_words(output: Output, script: str, more: Sequence[str] = ()) -> None:
+    """Refuses words that its tool doesn't take, before anything is begun."""
+    code = compile(output.tool.read_bytes(), str(output.tool), "exec")
+    tool: Dict[str, Any] = {"__name__": "tool", "__file__": str(output.tool)}
+    exec(code, tool)
+    tool["words"]().parse_args([*output.words(script), *more])
 
 
 def made(output: Output, script: str, more: Sequence[str] = ()) -> bool:
@@ -132,4 +146,4 @@ def settings_behind(data: Optional[bytes], settings: Sequence[str]) -> Optional[
     return data + b"\n" + "".join(f"attr {setting}\n" for setting in settings).encode()
 
 
-__all__ = ["Output", "Outputs", "output_of", "settings_behind"]
+__all__ = ["Output", "Outputs", "check_words", "files_of", "output_of", "settings_behind"]

@@ -1,17 +1,19 @@
 """Which symbols a town draws by meshes of one's own, and where these come from: the words `--mesh SYMBOL=FILE` of a tool, comments
 `# mesh SYMBOL FILE` of a script, and the assets in which a script dresses symbols. Of one symbol the first of these counts."""
-import argparse
 import os
 import re
 from functools import lru_cache
+from operator import itemgetter
 from pathlib import Path
 from typing import Dict, Iterable, Iterator, List, Mapping, NamedTuple, Sequence, Tuple
 
-from .call import Refused
+from .call import Namespace, Refused, Words, WrongValue
+from .colours import colour_files
+from .given_files import Target, reason_of
 from .own_mesh import OwnMesh
 from .own_mesh_glb import read_glb
 from .own_mesh_obj import asset_mesh, read_obj
-from .script import Command
+from .script import Command, lines_of
 from .strangers_text import told
 
 READERS = {".obj": read_obj, ".glb": read_glb}
@@ -20,6 +22,7 @@ MESH = re.compile(rf"# mesh ({NAME}) (\S.*?\.(?:obj|glb))\s*", re.ASCII | re.IGN
 BEGUN = re.compile(r"#\s*mesh\b.*\.(obj|glb)\b", re.ASCII | re.IGNORECASE)
 HELP = "a mesh of one's own is said as `# mesh SYMBOL FILE`, with a file that ends in .obj or .glb"
 OK = ["# ok"]
+MOST = 1 << 22  # bytes of a script in which its comments are looked for
 
 Meshes = Dict[str, OwnMesh]  # by symbol
 
@@ -27,15 +30,29 @@ Meshes = Dict[str, OwnMesh]  # by symbol
 def mesh_word(word: str) -> Tuple[str, str]:
     """SYMBOL=FILE as a symbol and a path."""
     symbol, _, path = word.partition("=")
-    if not re.fullmatch(NAME, symbol, re.ASCII) or Path(path).suffix.lower() not in READERS:
-        raise argparse.ArgumentTypeError(
-            f"`{told(word)}` isn't SYMBOL=FILE, such as window=window.glb or tree=tree.obj"
-        )
+    is_named = re.fullmatch(NAME, symbol, re.ASCII) and path
+    if is_named and Path(path).suffix.lower() not in READERS:
+        raise WrongValue(f"`{told(path)}` is no mesh: a mesh is a file that ends in .obj or .glb")
+    if not is_named:
+        raise WrongValue(f"`{told(word)}` isn't SYMBOL=FILE, such as window=window.glb or tree=tree.obj")
     return symbol, path
 
 
-def add_words(known: argparse.ArgumentParser) -> None:
-    known.add_argument("--mesh", action="append", type=mesh_word, default=[])
+def add_words(known: Words) -> None:
+    known.add_argument("--mesh", action="append", type=mesh_word, default=[], reads=itemgetter(1))
+
+
+def files_of(word: Namespace) -> Tuple[List[str], List[Target]]:
+    """The files that a tool reads beside those that its words name: of colours, and of meshes that the script's comments name."""
+    found = colour_files(getattr(word, "colours", None))
+    if not word.town.endswith(".obj") and os.path.isfile(word.town):
+        with open(word.town, "rb") as file:
+            lines = lines_of(file.read(MOST))
+        for said in said_in(lines, Path(word.town).parent).values():
+            if not os.path.isfile(said.path):
+                read_said(word.town, said)
+            found.append(said.path)
+    return found, []
 
 
 worn_mesh = lru_cache(maxsize=64)(asset_mesh)
@@ -75,7 +92,7 @@ def read_said(script: str, said: Said) -> OwnMesh:
     try:
         return read(said.path)
     except OSError as fault:
-        raise Refused(f"{script}:{said.line}: {said.path}: {fault.strerror}") from None
+        raise Refused(f"{script}:{said.line}: {reason_of(said.path, fault)}") from None
     except Refused as fault:
         raise Refused(f"{script}:{said.line}: {fault}") from None
 
@@ -108,7 +125,7 @@ def check_drawn(pairs: Iterable[Tuple[str, str]], known: Sequence[str]) -> None:
     """Refuses a word whose symbol draws nothing."""
     unknown = sorted({symbol for symbol, _ in pairs} - set(known))
     if unknown:
-        raise Refused(f"nothing is drawn by {unknown[0]!r}; symbols that draw are {', '.join(known)}")
+        raise Refused(f"nothing is drawn by `{told(unknown[0])}`; symbols that draw are {', '.join(known)}")
 
 
 def told_of(meshes: Mapping[str, OwnMesh]) -> Tuple[Dict[str, str], Dict[str, object]]:

@@ -61,7 +61,7 @@ def stand_of(lot: str, number: int, form: Form) -> Stand:
     try:
         return stand(form)
     except NoScope as why:
-        raise Refused(f"solid {number} of lot {lot!r} is {why}") from None
+        raise Refused(f"solid {number} of lot `{lot}` is {why}") from None
 
 
 @lru_cache(maxsize=None)

@@ -1,8 +1,10 @@
 """The program that replies to scripts: the launcher beside the tools, or another. What runs it is loaded late, since it takes
 long, and not each call of a tool needs it."""
+import os
 from pathlib import Path
 
-from .call import Refused
+from .call import Refused, WrongValue
+from .strangers_text import told
 
 LAUNCHER = Path(__file__).resolve().parent.parent.parent / "cga_city"
 MOST_LOTS = 4096  # of a run
@@ -15,6 +17,16 @@ def take_program(words):
         at = words.index("--program")
         return words[at + 1], words[:at] + words[at + 2 :]
     return str(LAUNCHER), words
+
+
+def program_word(path):
+    """A program that can be run, by its path or, without a folder, by its name on the PATH."""
+    folders = [""] if os.path.dirname(path) else os.environ.get("PATH", "").split(os.pathsep)
+    places = [os.path.join(folder, path) for folder in folders]
+    if path and any(os.path.isfile(place) and os.access(place, os.X_OK) for place in places):
+        return path
+    found = "is a folder" if os.path.isdir(path) else "can't be run" if os.path.exists(path) else "isn't there"
+    raise WrongValue(f"`{told(path)}` {found}: name a program, such as ./cga_city")
 
 
 def ready(program=None, name="cga_main"):

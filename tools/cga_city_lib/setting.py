@@ -1,10 +1,9 @@
 """Where a town is set in another program: what is taken off its coordinates, and how long its unit is."""
-import argparse
 import math
 from collections import namedtuple
 from decimal import Decimal, InvalidOperation
 
-from .call import Refused
+from .call import Refused, WrongValue
 from .instances import box_of
 from .numerals import plain
 from .strangers_text import told as told_word
@@ -26,7 +25,7 @@ def number(text):
     except InvalidOperation:
         value = Decimal("nan")
     if not value.is_finite():
-        raise argparse.ArgumentTypeError(f"`{told_word(text)}` isn't a number: --offset takes three, and --metres one")
+        raise WrongValue(f"`{told_word(text)}` isn't a number: --offset takes three, and --metres one")
     return value
 
 

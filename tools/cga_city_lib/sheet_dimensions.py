@@ -1,8 +1,8 @@
 """Dimensions on a sheet: fronts of lots on the plan, buildings and the gaps between them on a section, and chosen lines."""
-import argparse
 import math
 from typing import Any, Dict, Iterator, List, NamedTuple, Sequence, Tuple
 
+from .call import WrongValue
 from .dimensions import STYLE, dimension, text_box
 from .drawing import Box, Drawing, Point
 from .drawing_words import line
@@ -28,9 +28,7 @@ def chosen(word: str) -> Chosen:
     """`X,Z,X,Z` or `A:U,V,U,V`."""
     letter, colon, rest = word.rpartition(":")
     if colon and letter not in ("A", "B"):
-        raise argparse.ArgumentTypeError(
-            f"`{word}` names no section: A:U,V,U,V or B:U,V,U,V; of the plan X,Z,X,Z alone"
-        )
+        raise WrongValue(f"`{word}` names no section: A:U,V,U,V or B:U,V,U,V; of the plan X,Z,X,Z alone")
     return Chosen(f"section.{letter}" if letter else "plan", line(rest))
 
 

@@ -1,7 +1,6 @@
 """A sheet from a map and rules: the parcels become lots, the rules are run, and what comes of it is drawn and summed."""
 import csv
 import io
-import os
 from pathlib import Path
 from typing import Any, Callable, Dict, List, NamedTuple, Tuple
 
@@ -45,16 +44,6 @@ class Work(NamedTuple):
     floors: Any
     bills: Any
     is_proved: bool
-
-
-def check_files(word: Any) -> None:
-    """No file that is written is one that is read."""
-    given = [path for path in (word.map, word.rules, word.block) if path and os.path.exists(path)]
-    for path in filter(None, (word.sheet, str(pdf_of(word.sheet)), word.table, word.list, word.ground)):
-        if os.path.exists(path) and any(os.path.samefile(path, other) for other in given):
-            raise Refused(f"{path} would be overwritten: write to another file")
-    if Path(word.sheet).suffix.lower() != ".svg":
-        raise Refused(f"{told(word.sheet)}: a sheet is SVG: give it a name that ends with .svg")
 
 
 def pdf_of(sheet: str) -> Path:
@@ -163,7 +152,6 @@ def write_table(path: str, rows: List[Row]) -> None:
 
 def made(word: Any, say: Say) -> int:
     """Writes the sheet; gives the status."""
-    check_files(word)
     work = worked(word)
     for sentence in work.found.sentences:
         say(sentence)

@@ -1,11 +1,10 @@
 """The town of a script at each of some values of an attribute, by one running program."""
-import argparse
 import re
 from collections import Counter
 from fractions import Fraction
 from typing import Dict, Iterator, List, NamedTuple, Tuple
 
-from .call import Refused
+from .call import Refused, WrongValue
 from .instances import Lots
 from .kept_instances import KeptInstances
 from .live import Live
@@ -32,11 +31,11 @@ def values_word(word: str) -> Values:
         texts = [found.group(1), found.group(2)]
     numbers = [Fraction(text) for text in texts if numeral(text) is not None]
     if not re.fullmatch(r"[A-Za-z_]\w*", name, re.ASCII) or len(numbers) < len(texts):
-        raise argparse.ArgumentTypeError(f"`{told(word)}` isn't {FORM}")
+        raise WrongValue(f"`{told(word)}` isn't {FORM}")
     if found:
         number = int(found.group(3))
         if not 2 <= number <= MOST or numbers[0] >= numbers[1]:
-            raise argparse.ArgumentTypeError(f"`{told(word)}` has to go upwards in 2 to {MOST} values")
+            raise WrongValue(f"`{told(word)}` has to go upwards in 2 to {MOST} values")
         step = (numbers[1] - numbers[0]) / (number - 1)
         numbers = [numbers[0] + step * at for at in range(number)]
     return Values(name, numbers)

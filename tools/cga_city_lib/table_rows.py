@@ -3,10 +3,12 @@ from collections import Counter
 from fractions import Fraction
 from typing import Callable, Dict, Optional, Tuple
 
+from .call import WrongValue
 from .forms import Form
 from .measure import Measure, Measured
 from .numerals import decimal, rounded
 from .progress import counted
+from .strangers_text import told
 
 Key = Tuple[str, ...]
 HEADS = {"lot": ["lot"], "symbol": ["symbol"], "both": ["lot", "symbol"], "town": []}
@@ -20,7 +22,7 @@ KEYS: Dict[str, Callable[[str, str], Key]] = {
 
 def fraction_word(word: str) -> Fraction:
     if decimal(word) is None:
-        raise ValueError
+        raise WrongValue(f"`{told(word)}` isn't a number such as 3 or 2.8")
     return Fraction(word)
 
 
@@ -28,7 +30,7 @@ def floor_word(word: str) -> Tuple[str, Optional[Fraction]]:
     """A symbol that draws floors, perhaps with the height of a storey behind it."""
     symbol, _, storey = word.partition("=")
     if storey and not fraction_word(storey) > 0:
-        raise ValueError
+        raise WrongValue(f"`{told(storey)}` isn't a storey's height, which is above 0")
     return symbol, fraction_word(storey) if storey else None
 
 

@@ -2,7 +2,7 @@
 from fractions import Fraction
 from typing import Any, Dict, Iterator, List, NamedTuple, Optional, Sequence, Tuple
 
-from .call import Refused
+from .call import Refused, WrongValue
 from .numerals import decimal
 from .strangers_text import told
 from .table_rows import shown
@@ -24,7 +24,9 @@ def limit_word(word: str) -> Tuple[str, str, Fraction]:
     name, sign, rest = word.partition("=")
     value, _, height = (rest if sign else word).rpartition(":")
     if decimal(height) is None or bool(sign) != bool(name and value):
-        raise ValueError
+        raise WrongValue(
+            f"`{told(word)}` is neither a height, such as 11, nor PROPERTY=VALUE:HEIGHT, such as zone=W2:11"
+        )
     return name if sign else "", value, Fraction(decimal(height))
 
 

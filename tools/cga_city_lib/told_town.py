@@ -7,7 +7,7 @@ from typing import List, NamedTuple, Optional, Sequence
 from .call import Refused
 from .live import Live
 from .pipe import Ended
-from .replies import is_refused
+from .replies import counts_of, is_refused
 from .script import Command, commands, is_open, is_version, lines_of
 from .session import OPEN
 from .standing import Standing, standing
@@ -36,12 +36,14 @@ class Script(NamedTuple):
 
 
 class Told(NamedTuple):
-    """The names of the lots in order, a line for each instance, its id where that was asked for, and the replies."""
+    """The names of the lots in order, a line for each instance, its id where that was asked for, the replies, and how many
+    shapes came to nothing."""
 
     lots: List[str]
     drawn: List[str]
     ids: Optional[List[str]]
     answers: List[List[str]]
+    faults: int
 
 
 def script_of(path: str, data: bytes, settings: Sequence[str] = ()) -> Script:
@@ -64,6 +66,7 @@ class Teller:
     def __init__(self, program: str) -> None:
         self.first: Optional[List[bytes]] = None
         self.counts: Optional["Counter[bytes]"] = None
+        self.faults = 0  # as they were told last
         self.live = Live(program, self.change)
 
     def change(self, gone: List[bytes], come: List[bytes]) -> None:
@@ -85,9 +88,11 @@ class Teller:
     def ask(self, lines: Sequence[str], number: int) -> List[List[str]]:
         """The replies to lines that have so many."""
         try:
-            return self.live.ask([*lines, "stats"], number + 1)[:-1]
+            *found, stats = self.live.ask([*lines, "stats"], number + 1)
         except Ended as fault:
             raise Refused(f"there is no answer: {fault}") from None
+        self.faults = counts_of(stats).get("faults", 0)
+        return found
 
 
 def told_by(program: str, script: Script, is_ordered: bool = False) -> Told:
@@ -97,7 +102,7 @@ def told_by(program: str, script: Script, is_ordered: bool = False) -> Told:
         answers = teller.ask(script.lines, len(script.found))
         lots = list(script.standing(answers).lots)
         if not is_ordered:
-            return Told(lots, teller.drawn(), None, answers)
+            return Told(lots, teller.drawn(), None, answers, teller.faults)
         if not (script.is_second() and teller.is_one_derivation()):
             teller = derived_at_once(program, script, answers, teller)
         return in_order(lots, teller, answers)
@@ -126,8 +131,8 @@ def in_order(lots: List[str], teller: Teller, answers: List[List[str]]) -> Told:
     found = list(traced.in_order(lots))
     order = [at for _, numbers in found for at in numbers]
     if len(order) != len(drawn) or not all(are_of(lot, [drawn[at] for at in numbers]) for lot, numbers in found):
-        return Told(lots, sorted(drawn), None, answers)
-    return Told(lots, [drawn[at] for at in order], [traced.ids[at] for at in order], answers)
+        return Told(lots, sorted(drawn), None, answers, teller.faults)
+    return Told(lots, [drawn[at] for at in order], [traced.ids[at] for at in order], answers, teller.faults)
 
 
 def are_of(lot: str, lines: Sequence[str]) -> bool:

@@ -68,9 +68,9 @@ class Called(unittest.TestCase):
         self.assertEqual(status, 0, said)
         return [line.split("  #")[0] for line in out.split("\n") if line.startswith("lot ")]
 
-    def refused(self, *told, words=()):
+    def refused(self, *told, words=(), refusal=1):
         status, out, said = self.call(*words)
-        self.assertEqual((status, out), (1, ""), said)
+        self.assertEqual((status, out), (refusal, ""), said)
         self.assertEqual(said.count("\n"), 1)
         for text in told:
             self.assertIn(text, said)

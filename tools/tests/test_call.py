@@ -68,9 +68,9 @@ class Call(unittest.TestCase):
     def test_wrong_words(self):
         for given, why in (
             ([], "THING is missing: tools/make THING"),
-            (["x", "--what"], "unrecognized arguments: --what"),
-            (["x", "--many", "3000"], "argument --many: `3000` isn't a whole number from 1 to 2,000"),
-            (["x", "--man", "3"], "unrecognized arguments: --man 3"),
+            (["x", "--what"], "`--what` is none of its words"),
+            (["x", "--many", "3000"], "--many: `3000` isn't a whole number from 1 to 2,000"),
+            (["x", "--man", "3"], "`--man` is none of its words (perhaps --many is meant)"),
             (["x", "--many", "1.5"], "`1.5` isn't a whole number"),
         ):
             status, out, said = ended(raising(Refused), *given, refused=7)
@@ -84,7 +84,6 @@ class Call(unittest.TestCase):
         for fault, why in (
             (Refused("so not"), "so not"),
             (ValueError("nor so"), "nor so"),
-            (FileNotFoundError(2, "Not there", "x"), "x: Not there"),
             (OSError(28, "Full"), "output: Full"),
             (MemoryError(), "cut it into parts"),
             (RecursionError(), "cut it into parts"),
@@ -93,6 +92,15 @@ class Call(unittest.TestCase):
                 status, out, said = ended(raising(fault), "x", **more)
                 self.assertEqual((status, out, said.count("\n")), (known, "", 1))
                 self.assertTrue(said.startswith("make: ") and said.endswith(f"{why}\n"), said)
+
+    def test_a_file_that_cannot_be_read(self):
+        """Each tool ends with status 2, whatever its status of other input that can't be taken."""
+        for more in ({}, {"refused": 5}):
+            fault = FileNotFoundError(2, "Not there", "x")
+            self.assertEqual(
+                ended(raising(fault), "x", **more),
+                (2, "", "make: x: no such file is there: look at its name, and from which folder the call goes out\n"),
+            )
 
     def test_it_is_interrupted(self):
         self.assertEqual(ended(raising(KeyboardInterrupt), "x"), (130, "", ""))
@@ -116,7 +124,7 @@ class Call(unittest.TestCase):
 
 class Strangers(unittest.TestCase):
     def test_what_is_not_printable_is_written_as_its_code(self):
-        self.assertEqual(told("a\x1b\u202e\xe9"), "a\\x1b\\u202e\xe9")
+        self.assertEqual(told("a\x1b\u202e\xe9"), "a<1B><U+202E>\xe9")
         self.assertEqual(told("x" * 61), "x" * 60 + "..")
 
     def test_a_formula_stays_text(self):

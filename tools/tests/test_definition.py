@@ -330,7 +330,7 @@ class Judge(unittest.TestCase):
             self.assertEqual((status, "Traceback" in fault), (2, False))
         for words in (["judge", "/nowhere", "/nowhere"], ["define", "/"]):
             status, _, fault = called(*words)
-            self.assertEqual((status, fault.count("\n")), (1, 1))
+            self.assertEqual((status, fault.count("\n")), (2, 1))
 
 
 if __name__ == "__main__":

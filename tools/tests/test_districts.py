@@ -248,14 +248,12 @@ class Cut(RegionTest):
                 districts, "ready", lambda name: name
             ):
                 self.assertEqual(districts.chosen_program(None, asks), chosen, (proved, asks))
-        self.assert_refused(self.call("cut", "x", "y"), "x: No such file or directory")
+        self.assert_refused(self.call("cut", "x", "y"), "x: no such file is there", 2)
         self.folder = self.top / "fol\u03bb\u00e9 'der"
         self.assertEqual(self.cut(REGION)[0], 0, "paths are only data")
-        self.assert_refused(self.cut(REGION, program=nowhere), "nowhere: No such file")
-        for program, told in (("/dev/null", "isn't a program"), ("false", "no answer: false ended with status 1")):
-            self.assert_refused(
-                self.cut(REGION, program=program), told if program != "/dev/null" else "/dev/null: Permission denied"
-            )
+        self.assert_refused(self.cut(REGION, program=nowhere), "nowhere` isn't there: name a program", 2)
+        self.assert_refused(self.cut(REGION, program=self.top), "is a folder: name a program", 2)
+        self.assert_refused(self.cut(REGION, program="false"), "no answer: false ended with status 1")
 
     def test_wrong_words(self):
         for words in (

@@ -85,7 +85,7 @@ class WhatWasGiven(Given):
             ),
             (b"# a town\n", "has comments alone"),
             (b"lot,area\na,40\n", "is no script and no OBJ text, since its first line is `lot,area`"),
-            (b"\x1b]0;x\x07", "its first line is `\\x1b]0;x\\x07`"),
+            (b"\x1b]0;x\x07", "its first line is `<1B>]0;x<07>`"),
         ):
             with self.subTest(told):
                 self.refused(data, told)
@@ -191,7 +191,7 @@ class ByStandIn(Given):
 
     def test_a_picture_is_a_png(self):
         _, said = self.call("picture", "--program", TELLER, self.script, self.top / "town.jpg", status=2)
-        self.assertIn("town.jpg` has to end in .png", said)
+        self.assertIn("town.jpg has to end in .png", said)
 
     def test_merged_towns_and_glb(self):
         self.town.write_text("\n".join(of_script(3).lines))
@@ -260,7 +260,31 @@ class Refusals(Given):
     def test_nothing_is_drawn(self):
         self.script.write_text("rules\nend\n")
         _, said = self.call("table", "--program", TELLER, self.script, status=1)
-        self.assertEqual(said, f"table: nothing is drawn in {self.script}\n")
+        told = f"table: nothing is drawn in {self.script}: tools/lint {self.script} tells what comes to nothing\n"
+        self.assertEqual(said, told)
+
+    def test_shapes_that_come_to_nothing_are_told(self):
+        """Of two lots with a cube and a gable each, the cubes have no height."""
+        told = f"{self.script}: 2 shapes come to nothing: tools/lint {self.script} tells which and why"
+        more = ", once the values of --set stand in it"
+        for tool, ending in (("view", "html"), ("glb", "glb"), ("usda", "usda"), ("places", "csv"), ("merge", "obj")):
+            words = (tool, "--program", TELLER, self.script, self.top / f"x.{ending}")
+            self.assertEqual(self.call(*words)[1], "")
+            self.assertEqual(self.call(*words, "--set", "storey=0")[1], f"{tool}: {told}{more}\n")
+        for tool in ("table", "plan"):
+            words = (tool, "--program", TELLER, self.script)
+            self.assertEqual(self.call(*words, "--set", "storey=-4")[1], f"{tool}: {told}{more}\n")
+        self.script.write_text(SCRIPT.replace("storey = 3", "storey = 0"))
+        self.assertEqual(self.call("table", "--program", TELLER, self.script)[1], f"table: {told}\n")
+        picture = ("picture", "--program", TELLER, self.script, self.top / "x.png", "20x15", "--by", "python")
+        self.assertIn(f"picture: {told}\n", self.call(*picture)[1])
+
+    def test_a_program_that_tells_no_changes_tells_faults_as_well(self):
+        self.script.write_text("rules\nend\nlot a 3 5 0 1 1 house\nlot flat 0 5 0 1 1 house\n")
+        _, said = self.call("table", "--program", TESTS / "stand_in", self.script)
+        self.assertEqual(
+            said, f"table: {self.script}: 1 shape comes to nothing: tools/lint {self.script} tells which and why\n"
+        )
 
     def test_a_program_that_tells_no_changes(self):
         """Its town is what it prints: three cubes of a lot, by its seed."""

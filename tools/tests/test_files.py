@@ -94,13 +94,24 @@ class Written(unittest.TestCase):
         self.assertEqual([write(self.path, data) for data in (b"1", b"1", b"2")], [True, False, True])
 
 
+INTERRUPTS = """
+import os, signal, sys, time
+
+class Finder:
+    def find_spec(self, name, *_):
+        if name == "cga_city_lib.call":
+            os.kill(os.getpid(), signal.SIGINT)
+            time.sleep(1)
+
+sys.meta_path.insert(0, Finder())
+"""
+
+
 class Tools(unittest.TestCase):
     def test_an_interrupt_while_a_tool_loads(self):
-        """Each tool loads argparse; here a module of that name interrupts."""
+        """Each tool loads `call`; here whoever looks for that module interrupts."""
         with tempfile.TemporaryDirectory() as folder:
-            Path(folder, "argparse.py").write_text(
-                "import os, signal, time\nos.kill(os.getpid(), signal.SIGINT)\ntime.sleep(1)\n"
-            )
+            Path(folder, "sitecustomize.py").write_text(INTERRUPTS)
             for tool in TOOLS:
                 run = subprocess.run(
                     [sys.executable, tool],

@@ -229,7 +229,11 @@ class Looks(Files):
         self.colours.write_text('{"brick": {"texture": "brick.png"}}', encoding="utf-8")
         self.assertEqual(
             self.call("--colours", self.colours),
-            (1, "", f"glb: {self.folder / 'brick.png'}: No such file or directory\n"),
+            (
+                2,
+                "",
+                f"glb: {self.folder / 'brick.png'}: no such file is there: look at its name, and from which folder the call goes out\n",
+            ),
         )
         (self.folder / "brick.png").write_bytes(b"GIF89a")
         status, _, fault = self.call("--colours", self.colours)
@@ -240,7 +244,7 @@ class Looks(Files):
     def test_a_symbol_that_draws_nothing(self):
         status, _, fault = self.call("--instance", "window")
         self.assertEqual(
-            (status, fault), (1, "glb: nothing is drawn by 'window'; symbols that draw are brick_wall, brick\n")
+            (status, fault), (1, "glb: nothing is drawn by `window`; symbols that draw are brick_wall, brick\n")
         )
 
 

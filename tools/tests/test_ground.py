@@ -110,7 +110,7 @@ class Files(Grounds):
 
     def test_no_file_is_overwritten(self):
         self.write(box(1000, 2000, 9, 9, symbol="yard"))
-        self.refused("would be overwritten", words=("--ground", self.map))
+        self.refused("would be overwritten", words=("--ground", self.map), refusal=2)
 
 
 class Drawn(Grounds):

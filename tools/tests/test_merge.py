@@ -121,11 +121,15 @@ class Merge(unittest.TestCase):
     def test_what_cannot_be_taken(self):
         self.assertEqual(
             self.call(self.folder / "nowhere"),
-            (1, "", f"merge: {self.folder / 'nowhere'}: No such file or directory\n"),
+            (
+                2,
+                "",
+                f"merge: {self.folder / 'nowhere'}: no such file is there: look at its name, and from which folder the call goes out\n",
+            ),
         )
         self.source.write_text("# ok\n", encoding="utf-8")
         self.assertEqual(self.call(self.source)[0], 1)
-        self.assertEqual(self.call(self.source, self.source)[0], 1)
+        self.assertEqual(self.call(self.source, self.source)[0], 2)
         self.assertEqual(self.call()[0], 2)
 
 

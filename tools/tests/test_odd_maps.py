@@ -372,7 +372,7 @@ class Files(Odd):
         with mock.patch.object(geojson.shutil, "which", return_value=None):
             self.refused("isn't GeoJSON, and `ogr2ogr` (Debian: gdal-bin)", "ogr2ogr -f GeoJSON -t_srs EPSG:4326")
         self.map = self.top / "none.gpkg"
-        self.refused("none.gpkg: No such file or directory")
+        self.refused("none.gpkg: no such file is there", refusal=2)
 
     def test_other_json(self):
         self.map.write_text('{"type": "Topology", "objects": {}, "arcs": []}')

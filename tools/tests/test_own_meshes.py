@@ -77,13 +77,13 @@ class Obj(Files):
             ("v 0 0 0\nf 1 0 1\n", "bad.obj:2: `f 1 0 1` is no line"),
             ("v 0 0 0\nf 1 1 7\n", "bad.obj: a face names vertex 7, and 1 are there"),
             ("v 0 0 0\n", "bad.obj: the mesh has no face"),
-            ("mtllib no.mtl\n", "no.mtl: No such file or directory"),
+            ("mtllib no.mtl\n", "no.mtl: no such file is there"),
             ("v 0 nan 0\n", "bad.obj:1: `v 0 nan 0` is no line"),
         ):
             with self.subTest(text):
                 self.write("bad.obj", text)
                 status, out, fault = called("glb", "--mesh", "window=bad.obj", "town.obj", "x.glb", folder=self.folder)
-                self.assertEqual((status, out, fault.count("\n")), (1, "", 1))
+                self.assertEqual((status, out, fault.count("\n")), (2 if "no.mtl" in told else 1, "", 1))
                 self.assertIn(told, fault)
                 self.assertFalse((self.folder / "x.glb").exists())
 
@@ -196,8 +196,11 @@ class InGlb(Files):
         self.assertEqual([node["name"] for node in reader.told["nodes"]], ["a", "town"])
 
     def test_a_symbol_that_draws_nothing_and_a_wrong_word(self):
-        wrong = (("wndow=window.obj", 1, "nothing is drawn by 'wndow'"), ("window", 2, "isn't SYMBOL=FILE"))
-        for word, status, told in (*wrong, ("window=window.fbx", 2, "isn't SYMBOL=FILE, such as window=window.glb")):
+        wrong = (("wndow=window.obj", 1, "nothing is drawn by `wndow`"), ("window", 2, "isn't SYMBOL=FILE"))
+        for word, status, told in (
+            *wrong,
+            ("window=window.fbx", 2, "`window.fbx` is no mesh: a mesh is a file that ends in .obj or .glb"),
+        ):
             found = called("glb", "--mesh", word, "town.obj", "x.glb", folder=self.folder)
             self.assertEqual(found[0], status)
             self.assertIn(told, found[2])

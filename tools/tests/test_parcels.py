@@ -108,7 +108,7 @@ class Maps(Called):
         self.assertEqual(status, 0)
         self.assertIn("lot p12_4 1", out)
         self.assertIn("  # feature 1, 12/4 <&>\n", out)
-        self.assertIn("  # feature 4, ü\\n\\x1b\n", out)
+        self.assertIn("  # feature 4, ü<0A><1B>\n", out)
         self.assertEqual(
             said.split("\n")[:2],
             [
@@ -227,13 +227,13 @@ class Maps(Called):
         self.write(box(1000, 2000, 9, 9, symbol="hut"))
         self.refused("no rule of", "has the symbol `hut`")
         for words, told in (
-            (["--front", "up"], "invalid choice: 'up'"),
+            (["--front", "up"], "--front takes south, east, north or west, and not `up`"),
             (["--decimals", "7"], "`7` isn't a whole number from 0 to 6"),
             (["--snap", "nan"], "isn't a number"),
             (["--default", "x"], "--default"),
             (["--origin", "1"], "--origin"),
-            (["--what"], "unrecognized arguments: --what"),
-            (["--dec", "2"], "unrecognized"),
+            (["--what"], "`--what` is none of its words"),
+            (["--dec", "2"], "`--dec` is none of its words"),
         ):
             status, out, said = self.call(*words)
             self.assertEqual((status, out), (2, ""))
@@ -248,19 +248,19 @@ class Maps(Called):
             ("rules\nend\nrules\nend\n", ":3: a second block"),
             ("version 2\ncity\nend\n", ":2: write the rules as"),
             ("rules\nend\nundo\n", ":3: `undo` can't stand"),
-            ("rules\nend\n\x1b\n", ":3: `\\x1b` can't"),
+            ("rules\nend\n\x1b\n", ":3: `<1B>` can't"),
         ):
             with self.subTest(told):
                 self.rules.write_text(text)
                 self.refused(told)
         self.rules.unlink()
-        self.refused("rules.cga: No such file or directory")
+        self.refused("rules.cga: no such file is there", refusal=2)
 
     def test_files_are_not_overwritten(self):
         self.write(box(1000, 2000, 9, 9, symbol="yard"))
-        self.refused("would be overwritten", words=("--town", self.map))
-        self.refused("would be overwritten", words=("--list", self.rules))
-        self.refused("nowhere", words=("--list", self.top / "nowhere" / "list.csv"))
+        self.refused("would be overwritten", words=("--town", self.map), refusal=2)
+        self.refused("would be overwritten", words=("--list", self.rules), refusal=2)
+        self.refused("nowhere", words=("--list", self.top / "nowhere" / "list.csv"), refusal=2)
 
     def test_a_list_of_parcels(self):
         self.write(
@@ -331,7 +331,7 @@ class Towns(Called):
         self.rules.write_text(RULES.replace("2: yard", "2: die -> NIL\n3: yard"))
         self.refused("no answer: the program ended with status 6", words=("--town", self.town, "--program", CUBES))
         self.assertEqual(sorted(path.name for path in self.top.iterdir()), ["map.geojson", "rules.cga"])
-        self.refused("nowhere", words=("--town", self.town, "--program", self.top / "nowhere"))
+        self.refused("nowhere", words=("--town", self.town, "--program", self.top / "nowhere"), refusal=2)
 
     def test_shapes_that_come_to_nothing_are_told(self):
         self.write(box(1000, 2000, 9, 1, name="flat", symbol="yard"))

@@ -123,7 +123,7 @@ class PutTogether(unittest.TestCase):
             self.check(Town(solid_table.text([("a", "s", kind, (1, 2, 3), UPRIGHT, (4, 5, 1e-8))]).split("\n")))
 
     def test_what_print_does_not_draw(self):
-        with self.assertRaisesRegex(Refused, "solid 0 of lot 'a' is none that `print` draws"):
+        with self.assertRaisesRegex(Refused, "solid 0 of lot `a` is none that `print` draws"):
             places_in("o a\ng b\nv 0 0 0\nv 1 0 0\nv 0 1 0\nf 1 2 3\n".split("\n"))
         with self.assertRaisesRegex(Refused, "mirror image"):
             places_in(
@@ -220,9 +220,9 @@ class Ids(unittest.TestCase):
         self.assertEqual(ids(self.town, None), {"b": ["b#0", "b#1", "b#2", "b#3"]})
 
     def test_a_trace_of_another_town(self):
-        with self.assertRaisesRegex(Refused, "other solids of lot 'b'"):
+        with self.assertRaisesRegex(Refused, "other solids of lot `b`"):
             ids(self.town, self.steps("# trace 1\n# step b / wall - - 4\n"))
-        with self.assertRaisesRegex(Refused, "other solids of lot 'b'"):
+        with self.assertRaisesRegex(Refused, "other solids of lot `b`"):
             ids(self.town, self.steps("# trace 0\n"))
 
 

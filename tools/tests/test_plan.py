@@ -283,8 +283,8 @@ class Drawings(unittest.TestCase):
         for words, told in (
             (["--section", "1,2,3"], "--section"),
             (["--section", "1,2,1,2"], "--section"),
-            (["--plan", "1", "--elevation", "front"], "not allowed with"),
-            (["--elevation", "top"], "invalid choice"),
+            (["--plan", "1", "--elevation", "front"], "doesn't go with"),
+            (["--elevation", "top"], "front, right, back or left, and not `top`"),
             (["--scale", "0"], "from 1 to"),
         ):
             status, out, said = called("plan", self.town, *words)

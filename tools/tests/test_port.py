@@ -290,13 +290,13 @@ class Files(unittest.TestCase):
                 (["none.cga"], 1, "none.cga has no rule"),
                 (["odd.cga"], 1, "odd.cga:1: `\\` begins no word, number, text or sign of CGA"),
                 (["raw.cga"], 1, "raw.cga isn't text in UTF-8"),
-                (["gone.cga"], 1, "gone.cga: No such file"),
-                (["none.cga", "none.cga"], 1, "has the rules themselves"),
+                (["gone.cga"], 2, "gone.cga: no such file is there"),
+                (["none.cga", "none.cga"], 2, "none.cga would be overwritten"),
                 ([], 2, "RULES is missing"),
                 (["none.cga", "--lot", "0", "3"], 2, "`0` isn't a length above 0"),
             ):
                 with self.subTest(words):
-                    found = called("port", "--program", "/nowhere", *words, folder=folder)
+                    found = called("port", "--program", "false", *words, folder=folder)
                     self.assertEqual((found[0], found[2].count("\n")), (status, 1), found)
                     self.assertIn(why, found[2])
 

@@ -120,7 +120,7 @@ class Terminal(unittest.TestCase):
             for said, lines in (
                 (
                     "town.cga:8:9: Unexpected\ntown.cga:9:9: \x1b[0m",
-                    ["town.cga:8:9: Unexpected", "town.cga:9:9: \\x1b[0m"],
+                    ["town.cga:8:9: Unexpected", "town.cga:9:9: <1B>[0m"],
                 ),
                 ("", ["town.cga: nothing is wrong any more"]),
             ):
@@ -184,7 +184,10 @@ class Live(Preview):
         path.unlink()
         self.page.until(3)
         self.assertEqual(list(self.page.drawn()), ["a house cube 0 0 0 +X+Y+Z 10 3 8"])
-        self.assertEqual(self.page.head["said"], f"{self.script}:8: {path}: No such file or directory")
+        self.assertEqual(
+            self.page.head["said"],
+            f"{self.script}:8: {path}: no such file is there: look at its name, and from which folder the call goes out",
+        )
 
     def test_all_refused_lines_of_a_block_are_told(self):
         self.begin(RULES + A + B)
@@ -403,7 +406,7 @@ class Words(unittest.TestCase):
         for words, reason in (
             (["--port", "70000", "x"], "`70000` isn't a whole number from 0 to 65,535"),
             ([], "SCRIPT is missing"),
-            (["--what", "x"], "unrecognized arguments: --what"),
+            (["--what", "x"], "`--what` is none of its words"),
             (["--editor", "vi", "x"], "--editor: it doesn't name the file: say a command with {file}"),
             (["--editor", "vi '{file}", "x"], "a quote in it isn't closed"),
         ):
@@ -417,7 +420,12 @@ class Words(unittest.TestCase):
             words, capture_output=True, text=True, timeout=PATIENCE, env={**os.environ, "CGA_COLOURS": "/nowhere.json"}
         )
         self.assertEqual(
-            (done.returncode, done.stdout, done.stderr), (1, "", "preview: /nowhere.json: No such file or directory\n")
+            (done.returncode, done.stdout, done.stderr),
+            (
+                2,
+                "",
+                "preview: CGA_COLOURS names /nowhere.json, and no such file is there: name one that is, or take CGA_COLOURS away\n",
+            ),
         )
 
 

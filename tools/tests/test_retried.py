@@ -110,7 +110,7 @@ class Retried(unittest.TestCase):
 
     def test_strange_bytes(self):
         _, said = self.lint(b"rules\n1: a -> \x1b]0;evil\x07\xff\nend\n")
-        self.assertIn("1: a -> \\x1b]0;evil\\x07", said)
+        self.assertIn("1: a -> <1B>]0;evil<07>", said)
         self.assertFalse({"\x1b", "\x07"} & set(said))
         for data, kind in (
             ("rules\n".encode("utf-16"), "text in UTF-16"),

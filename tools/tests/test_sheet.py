@@ -227,7 +227,7 @@ class Words(Sheets):
 
     def test_files(self):
         self.sheet = self.top / "sheet.png"
-        self.assertIn("a sheet is SVG: give it a name that ends with .svg", self.made()[2])
+        self.assertIn("sheet.png has to end in .svg", self.made()[2])
         self.sheet = self.map.with_suffix(".svg")
         self.assertIn("would be overwritten", self.made("--table", self.map)[2])
         self.map = self.top / "lots.csv"

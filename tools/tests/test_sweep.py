@@ -69,6 +69,18 @@ class Sweeps(Scripts):
         rows = self.sweep("storey=2", "--by", "symbol")
         self.assertEqual([(row["symbol"], row["box"]) for row in rows], [("house", "236")])
 
+    def test_a_value_at_which_nothing_is_drawn(self):
+        """A house without height has a row of zeros between the two others; by lot and by symbol it is told."""
+        rows = self.sweep("storey=2,0,-1,4", "--floor", "house")
+        self.assertEqual([row["storey"] for row in rows], ["2", "0", "-1", "4"])
+        names = ("lots", "faults", "solids", "plan", "side", "front", "box", "volume", "top", "floors")
+        for row in rows[1:3]:
+            self.assertEqual([row[name] for name in names], ["2", "2"] + ["0"] * 8)
+        for by in ("lot", "symbol"):
+            rows = self.sweep("storey=2,0,4", "--by", by)
+            self.assertEqual(list(dict.fromkeys(row["storey"] for row in rows)), ["2", "4"])
+            self.assertIn(f"{self.script}: storey=0: nothing is drawn\n", self.said)
+
     def test_they_are_those_of_the_table(self):
         """A row is what tools/table says of the script with that value."""
         for value in ("2", "7/2"):

@@ -33,9 +33,9 @@ class Written(unittest.TestCase):
         (row,) = self.rows(*words)
         return row
 
-    def refused(self, told, *words):
+    def refused(self, told, *words, refusal=1):
         status, out, said = called("table", self.town, *words)
-        self.assertEqual((status, out), (1, ""), said)
+        self.assertEqual((status, out), (refusal, ""), said)
         self.assertEqual(said.count("\n"), 1)
         self.assertIn(told, said)
 
@@ -174,7 +174,7 @@ class Tables(Written):
             ("<html>", "is HTML"),
             (
                 "o a\ng b\nv 0 nan 0\nv 1 0 0\nv 0 1 0\nf 1 2 3\n",
-                "vertex 1 hasn't three numbers below 1e+12 as coordinates: '0 nan 0'",
+                "vertex 1 hasn't three numbers below 1e+12 as coordinates: `0 nan 0`",
             ),
             ("o a\ng b\nv 0 1e300 0\nv 1 0 0\nv 0 1 0\nf 1 2 3\n", "vertex 1"),
             ("o a\ng b\nv 0 0\nv 1 0 0\nv 0 1 0\nf 1 2 3\n", "vertex 1"),
@@ -186,7 +186,7 @@ class Tables(Written):
                 self.town.write_text(text)
                 self.refused(told)
         self.town.unlink()
-        self.refused("No such file")
+        self.refused("no such file is there", refusal=2)
 
     def test_reported_columns(self):
         """In each lot three quads of 0.5 by 2, and a box of 1.5 by 1 by 1 whose sides are 5; reports of one name are added up."""
@@ -214,7 +214,7 @@ class Tables(Written):
     def test_words(self):
         self.write(Drawn().lot("a").solid("x", "cube", (0, 0, 0), (1, 1, 1)))
         for words, told in (
-            (["--by", "street"], "invalid choice: 'street'"),
+            (["--by", "street"], "--by takes lot, symbol or both, and not `street`"),
             (["--limit", "high"], "--limit"),
             (["--floor", "x=0"], "--floor"),
             (["--decimals", "13"], "from 0 to 12"),

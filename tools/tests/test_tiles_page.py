@@ -203,7 +203,7 @@ class InBrowser(Pages):
         self.follow()
         for name in ("plan.json", "tiles/../plan.json", "tiles/", "state/x", "set"):
             self.assertEqual(self.browser.run(f"fetch('/{name}').then(answer => answer.status)"), 404, name)
-        self.assertEqual(called("preview", self.top)[0], 1)
+        self.assertEqual(called("preview", self.top)[0], 2)
 
     def test_turned_tiles_are_drawn_where_they_stand(self):
         """The cube of the second lot is 1 by 1 from (0, 10) in a frame that is turned by 30 degrees."""

@@ -261,8 +261,8 @@ class Shown(unittest.TestCase):
         )
 
     def test_nothing_drawn(self):
-        for tool in ("view", "picture"):
-            self.assertEqual(call(tool, "same.said", self.folder / "x")[0], 1)
+        for tool, name in (("view", "x.html"), ("picture", "x.png")):
+            self.assertEqual(call(tool, "same.said", self.folder / name)[0], 1)
 
     def test_each_picture_can_be_made(self):
         for picture in [*TOP.glob("docs/pictures/*.png"), *TOP.glob("examples/*.png")]:
@@ -289,9 +289,14 @@ class Manners(unittest.TestCase):
         )
 
     def test_a_file_that_is_not_there(self):
-        for tool, others, status in (("lint", [], 2), ("view", ["x"], 1), ("picture", ["x"], 1), ("diff", ["x"], 2)):
+        for tool, others, status in (("lint", [], 2), ("view", ["x"], 2), ("picture", ["x"], 2), ("diff", ["x"], 2)):
             self.assertEqual(
-                call(tool, "nowhere", *others), (status, "", f"{tool}: nowhere: No such file or directory\n")
+                call(tool, "nowhere", *others),
+                (
+                    status,
+                    "",
+                    f"{tool}: nowhere: no such file is there: look at its name, and from which folder the call goes out\n",
+                ),
             )
 
 

@@ -58,11 +58,13 @@ class Files:
 
     def __init__(self, read: Read) -> None:
         self.read, self.many = read, 0
+        self.paths: List[Path] = []  # of those that were read
 
     def declared(self, path: Path, text: str) -> Tuple[List[Declaration], List[Comment]]:
         """What a file declares and what its imports do, with the comments of the file itself."""
         number = self.many
         self.many += 1
+        self.paths.append(path)
         tokens, comments = tokens_of(str(path), text)
         tokens = [token._replace(line=token.line + number * FILE) for token in tokens]
         found: List[Declaration] = []
