@@ -7,7 +7,7 @@ Each town has LOTS lots by the rules of bench/live_speed.py. A save moves a lot,
 few lots or of all, or takes half of the lots out or back. Told are the least and the middle time of N saves, in thousandths of
 a second: until the page has the change, and until its picture is drawn. Chromium draws by the processor alone here, so the
 second one says little of a graphics processor. The fine picture that the page draws when nothing is asked for is left out.
-Behind them ten edits of all show what memory the page and the preview keep.
+Behind them eleven edits of all show what memory the page and the preview keep.
 With --page each row goes into that page as soon as it is measured, as docs/PREVIEW.md; with --only the rows alone whose name has
 that text, or the first picture or the memory, if it is `first` or `memory`.
 """
@@ -52,7 +52,13 @@ SENT = "performance.getEntriesByType('resource').reduce((sum, one) => sum + one.
 TICK = os.sysconf("SC_CLK_TCK")
 FIRST = ["Lots", "Triangles", "First picture", "Python", "Bytes sent", "A picture again"]
 SAVES = ["Lots", "Save", "Python", "Bytes sent", "There: least, middle", "Aim", "Drawn: least, middle"]
-MEMORY = ["Lots", "Page behind one edit of all", "Page behind ten", "Preview behind one", "Preview behind ten"]
+MEMORY = [
+    "Lots",
+    "Page behind one edit of all",
+    "Page behind ten more",
+    "Preview behind one",
+    "Preview behind ten more",
+]
 AIMS = {  # thousandths of a second by kind of save
     "a lot": {200: 50, 1000: 80, 4000: 100},
     "all": {200: 500, 1000: 2000, 4000: 3000},
@@ -101,6 +107,12 @@ def attribute_of_few(town, turn):
 
 def attribute_of_all(town, turn):
     town.change(r"attr bay = [\d/]+", f"attr bay = {('3', '5/2')[turn % 2]}")
+
+
+def turns_of_all(town):
+    """Eleven turns of an attribute of all, each of which changes the town; the last one leads to the town of the first."""
+    first = 0 if "attr bay = 5/2" in town.rules else 1
+    return range(first, first + 11)
 
 
 def half_out(town, turn):
@@ -208,11 +220,11 @@ def rows(browser, preview, town, lots, saves, only):
 
 
 def memory(browser, preview, town, lots):
-    """The memory behind one edit of all, and behind ten."""
-    found = []
-    for turn in range(1, 11):
+    """The memory behind one edit of all, and behind ten more."""
+    found, turns = [], turns_of_all(town)
+    for turn in turns:
         saved(browser, preview, town, attribute_of_all, turn)
-        if turn in (1, 10):
+        if turn in (turns[0], turns[-1]):
             browser.ask("HeapProfiler.collectGarbage")
             found.append((megabytes(browser.process), megabytes(preview)))
     return [f"{lots:,}", *(f"{many:.0f} MB" for kind in zip(*found) for many in kind)]

@@ -5,7 +5,7 @@ usage: bench/save_speed.py [--program PATH] [--page PATH] LOTS ..
 
 Towns and saves are those of bench/page_speed.py, each save once. Told are the processor seconds of the preview's own process
 and of its program, which hardly go by what else the machine does, the bytes of the answer, and the time by the clock until
-it was there. Behind them ten edits of all show what memory is kept. With --page each row goes into that page as soon as it is
+it was there. Behind them eleven edits of all show what memory is kept. With --page each row goes into that page as soon as it is
 measured.
 """
 import argparse
@@ -27,10 +27,10 @@ sys.path.append(str(Path(__file__).resolve().parent))
 
 import page_speed  # noqa: E402
 import tables  # noqa: E402
-from page_speed import CHANGES, HALVES, TICK, attribute_of_all  # noqa: E402
+from page_speed import CHANGES, HALVES, TICK, attribute_of_all, turns_of_all  # noqa: E402
 
 SAVES = ["Lots", "What", "Python", "Program", "Bytes sent", "By the clock"]
-MEMORY = ["Lots", "Preview behind one edit of all", "Behind ten"]
+MEMORY = ["Lots", "Preview behind one edit of all", "Behind ten more"]
 
 
 def stat_of(pid: Any) -> Tuple[int, float, float]:
@@ -106,12 +106,13 @@ def saves(preview: Any, reader: Reader, town: Any) -> Iterator[Tuple[str, List[s
 
 
 def kept(preview: Any, reader: Reader, town: Any) -> Iterator[str]:
-    """The memory behind one edit of all, and behind ten."""
-    for turn in range(1, 11):
+    """The memory behind one edit of all, and behind ten more."""
+    turns = turns_of_all(town)
+    for turn in turns:
         attribute_of_all(town, turn)
         town.save()
         reader.until(reader.save + 1)
-        if turn in (1, 10):
+        if turn in (turns[0], turns[-1]):
             yield f"{megabytes(preview.pid):.0f} MB"
 
 
