@@ -32,7 +32,7 @@ def write_to(process: Process, data: bytes) -> None:
         process.stdin.write(data)  # type: ignore[union-attr]
         process.stdin.flush()  # type: ignore[union-attr]
     except OSError:
-        pass  # it has ended, which its replies show
+        pass  # it has ended, which its replies or its status show
 
 
 class Pipe:

@@ -9,6 +9,7 @@ from typing import Deque, Dict, Iterator, List, NamedTuple, Optional, Sequence, 
 from .call import Refused
 from .grid import Box, number
 from .many_runs import outputs
+from .pipe import write_to
 from .script import text_of
 from .sources import frugal
 from .steps import digest_of, sizes, steps_by_lot
@@ -72,7 +73,7 @@ class Boxes:
 
     def begin(self) -> Process:
         process = subprocess.Popen([self.program], stdin=subprocess.PIPE, stdout=subprocess.PIPE, env=frugal())
-        put(process, text_of(BEGINNING + self.head))
+        write_to(process, text_of(BEGINNING + self.head))
         return process
 
     def prepare(self) -> None:
@@ -111,7 +112,7 @@ class Boxes:
 
     def fed(self, lots: Sequence[str]) -> Process:
         process = self.waiting.popleft() if self.waiting else self.begin()
-        put(process, text_of(self.lines(lots)))
+        write_to(process, text_of(self.lines(lots)))
         close_end(process)
         return process
 
@@ -140,14 +141,6 @@ class Boxes:
         steps = steps_by_lot(lines[2:behind]) if self.has_steps else {}
         named = ((line.split(" ", 3)[2], line) for line in hulls)
         return {name: told_of(line, steps.get(name.encode(), []), asked.before.get(name)) for name, line in named}
-
-
-def put(process: Process, data: bytes) -> None:
-    try:
-        process.stdin.write(data)  # type: ignore[union-attr]
-        process.stdin.flush()  # type: ignore[union-attr]
-    except OSError:
-        pass  # it has ended, which its status says
 
 
 def close_end(process: Process) -> None:

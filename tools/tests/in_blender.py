@@ -12,7 +12,6 @@ import tempfile
 from pathlib import Path
 
 import own_window
-import solid_table
 from in_process import called
 from test_other_readers import TILE
 
@@ -21,13 +20,7 @@ from cga_city_lib.tile_glb import glb
 TESTS = Path(__file__).resolve().parent
 TOOLS = TESTS.parent
 TOLD = ["the places are taken", "the add-on follows", "the glTF file is taken", "the tile is taken"]
-UPRIGHT = [(1, 0, 0), (0, 1, 0), (0, 0, 1)]
-TOWN = solid_table.text(
-    [
-        ("a", "window", "cube", (0, 0, 0), [(0, 0, -1), (0, 1, 0), (1, 0, 0)], (10, 6, 8)),
-        ("a", "wall", "quad", (0, 0, 0), UPRIGHT, (1, 1, 0)),
-    ]
-)
+TOWN = own_window.town((0, 0, 0))
 MESH = """mtllib window.mtl
 o pane
 usemtl pane

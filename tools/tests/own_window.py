@@ -7,12 +7,19 @@ mesh is 2 wide, 4 high and 1 deep, so in the box of size 1 its corners are those
 import solid_table
 
 UPRIGHT = [(1, 0, 0), (0, 1, 0), (0, 0, 1)]
-TOWN = solid_table.text(
-    [
-        ("a", "window", "cube", (2, 1, 3), [(0, 0, -1), (0, 1, 0), (1, 0, 0)], (10, 6, 8)),
-        ("a", "wall", "quad", (0, 0, 0), UPRIGHT, (1, 1, 0)),
-    ]
-)
+
+
+def town(corner):
+    """The place with its first corner there, and a wall beside it."""
+    return solid_table.text(
+        [
+            ("a", "window", "cube", corner, [(0, 0, -1), (0, 1, 0), (1, 0, 0)], (10, 6, 8)),
+            ("a", "wall", "quad", (0, 0, 0), UPRIGHT, (1, 1, 0)),
+        ]
+    )
+
+
+TOWN = town((2, 1, 3))
 OBJ = """mtllib window.mtl
 o window
 v 0 0 0
