@@ -14,8 +14,10 @@ WORDS = ["--decimals", "--town", "--checked", "--build", "--prove", "--proved", 
 
 
 def setUpModule():
-    """A gate that is begun in the background ignores Ctrl-C from the start, and what it begins would ignore it, too."""
+    """A gate that is begun in the background, or by nohup, ignores signals from the start, and what it begins would ignore them,
+    too."""
     signal.signal(signal.SIGINT, signal.default_int_handler)
+    signal.signal(signal.SIGHUP, signal.SIG_DFL)
 
 
 class Words(Copy):

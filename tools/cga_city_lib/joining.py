@@ -43,8 +43,10 @@ def workers(number):
 
 
 def ended_quietly():
-    """Ctrl-C ends a process of the pool without a word, also where it came while the process began."""
-    signal.signal(signal.SIGINT, signal.SIG_DFL)
+    """Ctrl-C ends a process of the pool without a word, also where it came while the process began; where the tool ignores it,
+    as one that is begun in the background does, so does the process."""
+    if signal.getsignal(signal.SIGINT) != signal.SIG_IGN:
+        signal.signal(signal.SIGINT, signal.SIG_DFL)
     signal.pthread_sigmask(signal.SIG_UNBLOCK, {signal.SIGINT})
 
 

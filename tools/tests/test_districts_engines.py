@@ -49,6 +49,7 @@ exec python3 {} <"$0.$$"
 # a tool that is interrupted while its processes work, and perhaps while they begin
 INTERRUPTED = """\
 import os, signal, sys, time
+signal.signal(signal.SIGINT, signal.default_int_handler)
 sys.path.insert(0, sys.argv.pop(1))
 from cga_city_lib.call import Words, call
 from cga_city_lib.joining import workers
