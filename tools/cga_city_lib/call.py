@@ -3,12 +3,13 @@ status 1, and neither with a trace of Python."""
 import os
 import re
 import sys
+from argparse import Namespace
 
 from .ends import wait_at_ends
 from .given_files import Unwritten, reason_of
 from .guarded import INTERRUPTED, guard_if, is_on_guard, listen
 from .strangers_text import told
-from .tool_words import FirstWord, Namespace, Words
+from .tool_words import FirstWord, Words
 from .version import VERSION
 from .wrong_word import WrongFile, WrongValue, WrongWord
 
