@@ -8,16 +8,12 @@ A KIND is one of kept_regions.py; rows and wall if none is said. N edits are mad
 once it is back. It takes a minute or two where nothing else runs.
 """
 import argparse
-import os
 import random
-import shutil
-import tempfile
 import time
-from pathlib import Path
 
 import slurm_on_loopback
 from kept_regions import KINDS, TOP, Beside, Talk, edits
-from slurm_on_loopback import NEEDED, Cluster, ended, expect, said, wait
+from slurm_on_loopback import cluster_up, ended, expect, is_here, said, wait
 
 BY = "srun -Q -n 1 --mem=20M"
 # one processor for each process, and the nodes take turns
@@ -76,26 +72,13 @@ def main():
     known.add_argument("--edits", type=int, default=20)
     known.add_argument("kinds", nargs="*", choices=[[], *KINDS], metavar="KIND")
     words = known.parse_args()
-    lacking = [name for name in NEEDED if not shutil.which(name)]
-    if lacking or os.geteuid():
-        print(
-            f"SKIPPED: {', '.join(lacking) or 'root'} is missing: as root, after `apt-get install slurm-wlm munge`, this runs"
-        )
+    if not is_here():
         return
-    with tempfile.TemporaryDirectory() as folder:
-        Path(folder).chmod(0o755)
-        cluster = Cluster(Path(folder))
-        try:
-            cluster.up()
-            for name in words.kinds or ("rows", "wall"):
-                top = Path(folder) / name
-                top.mkdir()
-                kept(name, cluster, top, words.edits)
-        except SystemExit:
-            print(said("squeue", "-a"), said("sinfo", "-N"), sep="\n")
-            raise
-        finally:
-            cluster.down()
+    with cluster_up() as cluster:
+        for name in words.kinds or ("rows", "wall"):
+            top = cluster.folder / name
+            top.mkdir()
+            kept(name, cluster, top, words.edits)
 
 
 if __name__ == "__main__":

@@ -17,7 +17,7 @@ import subprocess
 import sys
 import tempfile
 import time
-from contextlib import suppress
+from contextlib import contextmanager, suppress
 from pathlib import Path
 
 TESTS = Path(__file__).resolve().parent
@@ -281,38 +281,51 @@ def expect(is_so, what):
     print(f"ok: {what.partition(':')[0]}")
 
 
-def main():
-    known = argparse.ArgumentParser()
-    known.add_argument("--program", type=os.path.abspath)
-    program = known.parse_args().program
+def is_here():
+    """Whether Slurm is here and this is root; if not, what is missing is said."""
     lacking = [name for name in NEEDED if not shutil.which(name)]
     if lacking or os.geteuid():
-        print(
-            f"SKIPPED: {', '.join(lacking) or 'root'} is missing: as root, after `apt-get install slurm-wlm munge`, this runs a region by Slurm"
-        )
-        return
+        lacks = ", ".join(lacking) or "root"
+        print(f"SKIPPED: {lacks} is missing: as root, after `apt-get install slurm-wlm munge`, this runs by Slurm")
+        return False
+    return True
+
+
+@contextmanager
+def cluster_up():
+    """A cluster of two nodes in a folder of its own. Where something fails there, the queue, the nodes and the ends of the logs are
+    printed."""
     with tempfile.TemporaryDirectory() as folder:
         Path(folder).chmod(0o755)
-        cluster, region = Cluster(Path(folder)), Region(
-            Path(folder), program or STAND_IN, real_lines() if program else asking(*LOTS)
-        )
+        cluster = Cluster(Path(folder))
         try:
             cluster.up()
-            killed(region)
-            node_down(region, cluster)
-            if region.todo() or not (region.folder / "town.obj").exists():
-                region.submit("--mem=600M", THEN="join")
-                wait(ended, "the queue to be empty", 900)
-            expect(region.is_joined(), "what is joined is what one run prints")
-            by_make(region)
-            tiles(region)
+            yield cluster
         except SystemExit:
             print(said("squeue", "-a"), said("sinfo", "-N"), sep="\n")
-            for path in [*region.folder.glob("slurm*.log"), *cluster.folder.glob("*.log")]:
+            for path in [*cluster.folder.rglob("slurm*.log"), *cluster.folder.glob("munge*.log")]:
                 print(f"== the end of {path}:", *path.read_text(errors="replace").splitlines()[-8:], sep="\n")
             raise
         finally:
             cluster.down()
+
+
+def main():
+    known = argparse.ArgumentParser()
+    known.add_argument("--program", type=os.path.abspath)
+    program = known.parse_args().program
+    if not is_here():
+        return
+    with cluster_up() as cluster:
+        region = Region(cluster.folder, program or STAND_IN, real_lines() if program else asking(*LOTS))
+        killed(region)
+        node_down(region, cluster)
+        if region.todo() or not (region.folder / "town.obj").exists():
+            region.submit("--mem=600M", THEN="join")
+            wait(ended, "the queue to be empty", 900)
+        expect(region.is_joined(), "what is joined is what one run prints")
+        by_make(region)
+        tiles(region)
 
 
 if __name__ == "__main__":
