@@ -1,5 +1,6 @@
 """What each cause of a refusal and each code of a fault means, in a sentence, and what helps against a fault."""
 import re
+from typing import Callable, Dict, List, Sequence, Tuple, Union
 
 CAUSES = {  # {0} and {1} are what is told with the cause: an id, a name, or an id and a name
     "LineTooLong": "the line has more than 4,096 bytes",
@@ -62,18 +63,64 @@ HELPS = {
     "Overflow": "smaller numbers, or fewer decimals in divisors; a rule that doubles its numbers needs an end",
     "ZeroDivide": "a condition before it, which keeps the divisor from 0: a : Scope.sx > 0 -> ..",
     "NegativeSize": "a condition that keeps narrow shapes away: a : Scope.sx > 2 -> S(Scope.sx - 2, 1r, 1r) b",
-    "FlatScope": 'depth before it: S(1r, 1r, 0.1) I("cube"); a face is flat along its Z, so there I("quad") draws it as it is',
+    "FlatScope": 'depth before it: S(1r, 1r, 0.1) I("cube"); a face is flat along its Z, so there I("quad") draws it as it is; a lot is flat along its Y: S(1r, 6, 1r)',
     "PartNotPositive": "a rule before it for the shapes where the size comes to 0 or less: a : Scope.sx < 2 -> wall",
     "SubdivSum": "one size with an r, which takes what the others leave; and a rule before it for shapes that are too narrow: a : Scope.sx < 8 -> wall",
     "RepeatCount": 'a greater length, or two steps: Repeat("X", 100) { row } and in `row` the smaller one',
     "TooManyParts": "a symbol of its own for what is in the parts, with a rule that splits on",
     "TooManyChildren": "a symbol of its own for what is in the parts, with a rule that splits on",
 }
-INWARDS = re.compile(r"\bS\s*\([^()]*,\s*-[^(),]*\)", re.ASCII)
+ALONG = "a lot is flat along its Y, and a face along its Z"
+SIZED = {"X": "S(3, 1r, 1r)", "Y": "S(1r, 3, 1r)", "Z": "S(1r, 1r, 0.3)"}
+Help = Union[str, Callable[["re.Match[str]"], str]]
 
 
-def help_for(code, rules):
+def sized(found: "re.Match[str]") -> str:
+    axis = found["axis"]
+    return f'a size along {axis} before the split: {SIZED[axis]} {found["split"]}("{axis}", ..) {{ .. }}; {ALONG}'
+
+
+OF_RULES: Dict[
+    str, List[Tuple[str, Help]]
+] = {  # of a code, the help where a rule has this; the first one that is found
+    "NegativeSize": [
+        (
+            r"\bS\s*\([^()]*,\s*-[^(),]*\)",
+            "to go inwards from a face by d: T(0, 0, -d) S(1r, 1r, d); a size is never below 0",
+        ),
+    ],
+    "FlatScope": [
+        (r'\bI\s*\(\s*"(cube|shed|gable|hip)"', HELPS["FlatScope"]),
+        (r'\b(?P<split>Subdiv|Repeat)\s*\(\s*"(?P<axis>[YZ])"', sized),
+        (r"\bComp\s*\(", f'a body before it, as S(1r, 6, 1r) Comp("sidefaces") {{ wall }}; {ALONG}'),
+        (
+            r'\bI\s*\(\s*"quad"',
+            'a quad stands upright, along X and Y, and a lot lies flat: S(1r, 0.1, 1r) I("cube") draws its ground',
+        ),
+        (r'\b(?P<split>Subdiv|Repeat)\s*\(\s*"(?P<axis>X)"', sized),
+    ],
+    "PartNotPositive": [
+        (
+            r'\bRepeat\s*\(\s*"(?P<axis>[XYZ])"\s*,\s*(0|-\s*\d+)(\.\d+)?\s*\)',
+            lambda found: f'a length above 0, which is that of one part: Repeat("{found["axis"]}", 3) {{ .. }}',
+        ),
+        (
+            r'\bSubdiv\s*\(\s*"[XYZ]"\s*,([^(){]*,)?\s*(0|-\s*\d+)(\.0+|r)?\s*[,)]',
+            "sizes above 0: leave the part of size 0 out, and its body",
+        ),
+        (
+            r'\bRepeat\s*\(\s*"[XYZ]"\s*,\s*(?P<name>[A-Za-z_]\w*)\s*\)',
+            lambda found: f"`{found['name']}` above 0, or a rule before it for the shapes where it isn't: a : {found['name']} <= 0 -> wall",
+        ),
+    ],
+}
+
+
+def help_for(code: str, rules: Sequence[str]) -> str:
     """What helps against a fault, where one of the symbol's rules stands in these lines."""
-    if code == "NegativeSize" and any(INWARDS.search(rule) for rule in rules):
-        return "to go inwards from a face by d: T(0, 0, -d) S(1r, 1r, d); a size is never below 0"
+    for pattern, text in OF_RULES.get(code, []):
+        for rule in rules:
+            found = re.search(pattern, rule, re.ASCII)
+            if found:
+                return text if isinstance(text, str) else text(found)
     return HELPS.get(code, "")

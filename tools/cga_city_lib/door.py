@@ -94,7 +94,9 @@ def read(found: Given, words: Namespace, is_ordered: bool, is_bare: bool = False
     gc.disable()
     try:
         return (
-            scripted(found, words, is_ordered, is_bare) if found.is_script else Opened(found, *from_obj(found.text()))
+            scripted(found, words, is_ordered, is_bare)
+            if found.is_script
+            else Opened(found, *from_obj(found.text(), found.path))
         )
     finally:
         gc.freeze()

@@ -13,7 +13,6 @@ from .ground_solids import lots_of
 from .ids import ids_of
 from .instances import Lots, symbols
 from .own_meshes import Meshes
-from .places import check_faces
 
 
 class EngineTown(NamedTuple):
@@ -52,7 +51,6 @@ def town_of(word: Namespace) -> EngineTown:
     ground = read_ground(word.ground) if word.ground else None
     found, meshes = opened_dressed(word.town, word)
     known: List[str] = symbols(found.lots)
-    check_faces(found.lots, word.town)
     own_meshes.check_drawn([(symbol, "") for symbol in word.instance], known)
     wanted = set(known if word.instances else word.instance)
     ids = ids_of(found)[0] if wanted or meshes else {}

@@ -1,5 +1,5 @@
 """The instances in an OBJ text. What a run printed is read solid by solid, and any other text line by line."""
-from decimal import Decimal, InvalidOperation
+from decimal import Decimal
 from typing import Dict, List, NamedTuple, Optional, Tuple
 
 from .call import Refused
@@ -7,7 +7,6 @@ from .forms import Faces, Form
 from .instances import Corner, Instance, Lots
 from .obj import Solid, Town
 from .progress import counted
-from .strangers_text import told
 
 RUN = "# cga_city obj\n"
 FARTHEST = 10**12
@@ -27,7 +26,7 @@ class Read(NamedTuple):
     town: Optional[Town] = None
 
 
-def from_obj(text: str) -> Read:
+def from_obj(text: str, path: str = "") -> Read:
     begin = text.rfind(RUN)
     if begin >= 0 and (begin == 0 or text[begin - 1] == "\n"):
         end = text.find("\n# ", begin + len(RUN) - 1)
@@ -35,8 +34,7 @@ def from_obj(text: str) -> Read:
             return Printout(text[begin + len(RUN) : end if end >= 0 else len(text)]).read()
         except (Irregular, ValueError, IndexError):
             pass  # it is read line by line, which tells what is wrong
-    town = Town(counted(text.split("\n"), "lines read", 0))
-    return from_town(town)
+    return from_town(Town(counted(text.split("\n"), "lines read", 0), path, FARTHEST))
 
 
 class Forms:
@@ -117,7 +115,7 @@ class Printout:
                 found.append([])
             else:
                 found[-1].append(at - 1)
-        if sorted({at for face in found for at in face}) != list(range(number)):
+        if sorted({at for face in found for at in face}) != list(range(number)) or min(map(len, found)) < 3:
             raise Irregular
         self.patterns[pattern] = tuple(map(tuple, found))
         return self.patterns[pattern]
@@ -127,8 +125,8 @@ def from_town(town: Town) -> Read:
     """Of a text that was read line by line; a solid's own corners are those that its faces name."""
     places = max((decimals(part) for text in town.texts for part in text), default=0)
     if places > MOST_PLACES:
-        raise Refused(f"a coordinate has {places} decimals, and at most {MOST_PLACES} are taken")
-    steps = [whole(number, text, places) for number, text in enumerate(town.texts, 1)]
+        raise Refused(f"{town.path}: a coordinate has {places} decimals, and at most {MOST_PLACES} are taken")
+    steps = [whole(text, places) for text in town.texts]
     forms = Forms(places)
     lots = {lot: [instance(solid, town, steps, forms) for solid in solids] for lot, solids in town.lots.items()}
     return Read(lots, places, town)
@@ -138,15 +136,9 @@ def decimals(text: str) -> int:
     return len(text) - text.find(".") - 1 if "." in text else 0
 
 
-def whole(number: int, text: Tuple[str, ...], places: int) -> Tuple[int, int, int]:
+def whole(text: Tuple[str, ...], places: int) -> Tuple[int, int, int]:
     """The coordinates of a vertex as whole steps."""
-    try:
-        x, y, z = (Decimal(part) for part in text)
-        if not all(part.is_finite() and abs(part) < FARTHEST for part in (x, y, z)):
-            raise ValueError
-    except (ValueError, InvalidOperation):
-        found = told(" ".join(text))
-        raise Refused(f"vertex {number} hasn't three numbers below {FARTHEST:.0e} as coordinates: `{found}`") from None
+    x, y, z = map(Decimal, text)
     return steps_of(x, places), steps_of(y, places), steps_of(z, places)
 
 

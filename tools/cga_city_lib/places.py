@@ -38,12 +38,6 @@ class NoScope(Exception):
     """The form was drawn into no scope, with what it is."""
 
 
-def check_faces(lots: Lots, path: object) -> None:
-    forms = {instance.form for instances in lots.values() for instance in instances}
-    if any(len(face) < 3 for form in forms for face in form.faces):
-        raise Refused(f"{path}: a face has to have three corners at least")
-
-
 def places(lots: Lots) -> Iterator[Place]:
     """The place of each solid, lot by lot, in the order in which they are drawn."""
     for lot, instances in lots.items():

@@ -43,6 +43,8 @@ class Rules:
                 if head == "city"
                 else NO_BLOCK
                 if without_block(lines) is not None
+                else "a map can't stand among rules for parcels: the map's file is named first, then that of the rules"
+                if head[:1] in ("{", "[")
                 else f"`{told(head)}` can't stand among rules for parcels; tools/lint says what else is wrong",
             )
         if is_open(command, ["version 2"] + lines):

@@ -1,4 +1,4 @@
-"""Jobs that derive lots round their own: the premises of the laws of cga_district, computed on small towns, and whether the
+"""Jobs that derive lots round their own: the premises of the laws of cga_region, computed on small towns, and whether the
 jobs are the town."""
 import random
 import sys

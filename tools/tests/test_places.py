@@ -287,8 +287,8 @@ class Tool(unittest.TestCase):
         for bad, why in (
             ("v nan 0 0\nf 1 1 1", "three numbers below"),
             ("v 0 0\nf 1 1 1", "three numbers below"),
-            ("v 0 0 0\nf 1 1", "three corners"),
-            ("v a 0 0\nf 1 1 1", "'a'"),
+            ("v 0 0 0\nf 1 1", "three vertices or more"),
+            ("v a 0 0\nf 1 1 1", "three numbers below"),
             ("v 0 0 0\nf 1 2 1", "vertex 2"),
             ("", "nothing is drawn"),
         ):

@@ -24,7 +24,7 @@ def children(pid):
 
 
 def disagreeing(parts):
-    """The pairs that don't agree, by the definition (AllAgree of cga_district) alone."""
+    """The pairs that don't agree, by the definition (AllAgree of cga_region) alone."""
     found = [part for job in parts.jobs for part in job.parts]
     for part, other in product(found, found):
         for x, y in product(part.own, other.own) if part is not other else ():

@@ -168,18 +168,27 @@ class Tables(Written):
         row = self.row("--decimals", "4")
         self.assertEqual((row["plan"], row["side"], row["front"], row["volume"]), ("80", "108", "30", "240"))
 
+    def test_the_farthest_vertex_of_a_script_is_read(self):
+        town = Town([f"v {2**62}.000000 0.000000 {-(2**62)}.000000"])
+        self.assertEqual(town.points, [(2.0**62, 0.0, -(2.0**62))])
+
     def test_what_is_no_town(self):
         for text, told in (
             ("", "is empty"),
             ("<html>", "is HTML"),
             (
                 "o a\ng b\nv 0 nan 0\nv 1 0 0\nv 0 1 0\nf 1 2 3\n",
-                "vertex 1 hasn't three numbers below 1e+12 as coordinates: `0 nan 0`",
+                ":3: `v 0 nan 0`: a vertex has three numbers below 1,000,000,000,000; mend the line",
             ),
-            ("o a\ng b\nv 0 1e300 0\nv 1 0 0\nv 0 1 0\nf 1 2 3\n", "vertex 1"),
-            ("o a\ng b\nv 0 0\nv 1 0 0\nv 0 1 0\nf 1 2 3\n", "vertex 1"),
+            ("o a\ng b\nv 0 1e300 0\nv 1 0 0\nv 0 1 0\nf 1 2 3\n", ":3: `v 0 1e300 0`"),
+            ("o a\ng b\nv 0 0\nv 1 0 0\nv 0 1 0\nf 1 2 3\n", ":3: `v 0 0`: a vertex has"),
             ("o a\ng b\nv 0.1234567890123456789012 0 0\nv 1 0 0\nv 0 1 0\nf 1 2 3\n", "22 decimals"),
-            ("o a\ng b\nv 0 0 0\nf 1 2 3\n", "vertex 2"),
+            (
+                "o a\ng b\nv 0 0 0\nf 1 2 3\n",
+                ":4: `f 1 2 3`: a face names vertex 2, and 1 stands before it; mend the line",
+            ),
+            ("o a\ng b\nv 0 0 0\nf 1 1 -2\n", "a face names vertex -2, and 1 stands"),
+            ("o a\ng b\nv 0 0 0\nf 1 1 x\n", "`f 1 1 x`: a face has the numbers of three"),
             ("# bill 1\n# bill a x 1 1 0\no a\ng b\nv 0 0 0\nv 1 0 0\nv 0 1 0\nf 1 2 3\n", "isn't a line of a bill"),
         ):
             with self.subTest(told):

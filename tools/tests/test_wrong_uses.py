@@ -23,6 +23,9 @@ FILES = {
     "replies.txt": b"# ok\n# ok\n",
     "remarks.cga": b"# nothing\n",
     "pic.cga": b"# nothing\n",
+    "script.cga": b"rules\n1: a -> NIL\nend\n",
+    "dot.png": b"\x89PNG\r\n\x1a\n\0",
+    "map.json": b'{"type": "FeatureCollection", "features": []}\n',
 }
 USES = [  # the words, the status, and a part of what is said
     ("picture v.obj", 2, "PICTURE is missing: tools/picture [words] TOWN PICTURE.png"),
@@ -87,7 +90,11 @@ USES = [  # the words, the status, and a part of what is said
     ("define nofile", 2, "nofile: no such file is there: look at its name"),
     ("format", 2, "SCRIPT is missing: tools/"),
     ("port nofile", 2, "nofile: no such file is there: look at its name"),
-    ("port empty.cga", 1, "has no rule: a rule of CGA is written"),
+    ("port empty.cga", 1, "empty.cga is empty: give a file of CityEngine's rules, such as"),
+    ("port rules.cga", 1, "rules.cga has rules without a block"),
+    ("port script.cga", 1, "script.cga is a script already, with no rule to be ported: tools/lint reads it"),
+    ("port dot.png", 1, "dot.png is a PNG picture: give a file of CityEngine's rules"),
+    ("parcels script.cga map.json", 1, "the map's file is named first, then that of the rules"),
     ("glb v.obj", 2, "TOWN.glb is missing"),
     ("glb v.obj folder", 2, "folder: that is a folder: name a file"),
     ("glb --instance wal v.obj x.glb", 1, "symbols that draw are wall"),

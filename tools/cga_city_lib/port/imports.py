@@ -4,12 +4,14 @@ from pathlib import Path
 from typing import Callable, List, Set, Tuple
 
 from ..call import Refused
+from ..given import is_binary, what_else
 from .lost import FILE
 from .tokens import Comment, Token, tokens_of
 from .tree import Attribute, Declaration, Function, Name, Rule, Selected, Text, Unread
 
 Read = Callable[[List[Token]], List[Declaration]]
 MOST_FILES = 40
+CALL = "give a file of CityEngine's rules, such as `Lot --> extrude(9) Mass`"
 Part = object
 
 
@@ -17,7 +19,13 @@ def text_of(path: Path) -> str:
     try:
         return path.read_bytes().decode("utf-8-sig")
     except UnicodeDecodeError:
-        raise Refused(f"{path} isn't text in UTF-8: save it so") from None
+        raise Refused(f"{path} {not_text(path.read_bytes())}") from None
+
+
+def not_text(data: bytes) -> str:
+    """A predicate that says what a file is whose bytes are no text."""
+    is_utf_16 = data[:2] in (b"\xff\xfe", b"\xfe\xff")
+    return what_else(data, CALL) if is_binary(data) and not is_utf_16 else "isn't text in UTF-8: save it so"
 
 
 def prefixed(part: Part, own: Set[str], prefix: str) -> Part:
