@@ -102,6 +102,17 @@ def wide(lots):
     return city(f"attr h = 2\n{rules}{rows}")
 
 
+def wide_asked(lots):
+    """Lots side by side, each a row of four thousand leaves and one more child, which asks."""
+    rules = """1: row -> Repeat("X", 1) { leaf } asker
+2: leaf -> S(1r, h, 1r) I("cube")
+3: asker : Scope.occ("noparent") == "none" -> I("cube")
+4: asker -> NIL
+"""
+    rows = "".join(f"lot l{number} 1 0 {20 * number} 4000 10 row\n" for number in range(lots))
+    return city(f"attr h = 2\n{rules}{rows}")
+
+
 def doubled(order):
     """Shapes that double until the budget is spent."""
     rules = '1: a : Scope.sx > 0.005 -> Subdiv("X", 1r, 1r) { a | a }\n2: a -> NIL\n'
@@ -132,7 +143,12 @@ PRIORITY 0:
 
 def judged(lots):
     """A block that is to be judged: the trace of a town, as a program writes it."""
-    return lambda reply: "judge\n" + reply(town(lots) + "trace\n") + "end\n"
+
+    def block(reply):
+        replies = reply(town(lots) + "trace\n")
+        return "judge\n" + replies[replies.index("# trace") :] + "end\n"
+
+    return block
 
 
 def names(lots):
@@ -166,6 +182,7 @@ def grammars():
     yield Work(LINE, "16 former sources of 2 MB of rules", "", [long_rules()])
     yield Work(EDIT, "an attribute of a ladder of 24 levels, 4,000 leaves on each", ladder(24), ["attr h = 3\n"])
     yield Work(EDIT, "an attribute that shrinks 24 rows of 4,000 leaves", wide(24), ["attr h = 1\n"])
+    yield Work(EDIT, "an attribute of 4 rows of 4,000 leaves and one child that asks", wide_asked(4), ["attr h = 3\n"])
     for order in ("breadth", "depth"):
         yield Work(LINE, f"doubled up to the budget, {order}", "", [doubled(order)])
     yield Work(LINE, "two chains of depth 256 that ask", "", [chains()])

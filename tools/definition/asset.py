@@ -4,7 +4,7 @@ from typing import Dict
 
 from .fault import Fault, Refused
 from .fraction import ZERO, checked, decimal_of
-from .frame import AXES, checked_point, place_of
+from .frame import AXES, checked_point, world_point
 from .lexer import is_long
 from .reports import mesh_drawn, text_by
 from .solid import SolidMesh
@@ -117,7 +117,7 @@ def fit_of(asset, scope):
     vertices = []
     for point in asset.vertices:
         local = [local_of(spans[axis], scope.size[axis], point[axis]) for axis in AXES]
-        vertices.append(checked_point(place_of(scope.at, scope.frame, local)))
+        vertices.append(checked_point(world_point(scope.at, scope.frame, local)))
     return SolidMesh(tuple(vertices), asset.faces)
 
 

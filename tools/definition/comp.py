@@ -1,7 +1,7 @@
 """Faces, edges and vertices of a scope, as scopes."""
 from .fault import Fault
 from .fraction import ZERO
-from .frame import X, Y, Z, Scope, opposite, place_of
+from .frame import X, Y, Z, Scope, opposite, world_point
 
 SIDES = ("front", "right", "back", "left", "top", "bottom")
 
@@ -18,7 +18,7 @@ def face_of(scope, side):
         "top": ((0, h, d), (x, opposite(z), y), (w, d)),
         "bottom": ((0, 0, 0), (x, z, opposite(y)), (w, d)),
     }[side]
-    return Scope(place_of(scope.at, scope.frame, at), frame, (*size, ZERO))
+    return Scope(world_point(scope.at, scope.frame, at), frame, (*size, ZERO))
 
 
 def ends(size):
@@ -38,7 +38,7 @@ def edges_along(scope, axis):
         places, frame = [(a, 0, c) for a in w for c in d], (y, opposite(x), z)
     else:
         places, frame = [(a, b, 0) for a in w for b in h], (z, y, opposite(x))
-    return [Scope(place_of(scope.at, scope.frame, at), frame, (scope.size[axis], ZERO, ZERO)) for at in places]
+    return [Scope(world_point(scope.at, scope.frame, at), frame, (scope.size[axis], ZERO, ZERO)) for at in places]
 
 
 def edges(scope):
@@ -48,7 +48,7 @@ def edges(scope):
 def vertices(scope):
     w, h, d = map(ends, scope.size)
     places = [(a, b, c) for a in w for b in h for c in d]
-    return [Scope(place_of(scope.at, scope.frame, at), scope.frame, (ZERO, ZERO, ZERO)) for at in places]
+    return [Scope(world_point(scope.at, scope.frame, at), scope.frame, (ZERO, ZERO, ZERO)) for at in places]
 
 
 def components_of(scope, selector):

@@ -43,7 +43,7 @@ def moved_along(at, direction, by):
     return tuple(world)
 
 
-def place_of(at, frame, local):
+def world_point(at, frame, local):
     """The world point of local coordinates."""
     for direction, by in zip(frame, local):
         at = moved_along(at, direction, by)
@@ -85,7 +85,7 @@ class Scope:
 
 def far_of(scope):
     """The corner opposite to the position."""
-    return place_of(scope.at, scope.frame, scope.size)
+    return world_point(scope.at, scope.frame, scope.size)
 
 
 def box_of(scope):
@@ -106,7 +106,7 @@ def scope_of(at, frame, size):
 
 
 def translated(scope, by):
-    return existing(Scope(place_of(scope.at, scope.frame, by), scope.frame, scope.size))
+    return existing(Scope(world_point(scope.at, scope.frame, by), scope.frame, scope.size))
 
 
 def turned_scope(scope, axis, by):

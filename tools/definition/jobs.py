@@ -1,4 +1,4 @@
-"""Jobs of a town that derive lots round those that they answer for, and whether they are the town (cga_district)."""
+"""Jobs of a town that derive lots round those that they answer for, and whether they are the town (cga_region)."""
 from collections import defaultdict
 from dataclasses import dataclass, replace
 from functools import lru_cache

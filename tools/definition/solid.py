@@ -4,7 +4,7 @@ from typing import Tuple
 
 from .fault import Fault
 from .fraction import checked
-from .frame import checked_point, place_of
+from .frame import checked_point, world_point
 
 RIDGE_ALONG_X = ((4, 3, 6, 5), (3, 2, 6), (2, 1, 5, 6), (1, 4, 5), (1, 2, 3, 4))
 RIDGE_ALONG_Z = ((4, 3, 6), (3, 2, 5, 6), (2, 1, 5), (1, 4, 6, 5), (1, 2, 3, 4))
@@ -77,7 +77,7 @@ def mesh_of(primitive, scope):
         raise Fault("FlatScope")
     form = form_of(primitive, scope.size)
     corners = corners_of(form, scope.size)
-    return SolidMesh(tuple(checked_point(place_of(scope.at, scope.frame, at)) for at in corners), FACES[form])
+    return SolidMesh(tuple(checked_point(world_point(scope.at, scope.frame, at)) for at in corners), FACES[form])
 
 
 def check_solid_of(primitive, scope):

@@ -4,7 +4,8 @@ use Rattle.std.specs.Cmp.{IsTotalOrder}
 use Rattle.cga_order.specs.Chain.{IsChild}
 use Rattle.cga_order.specs.Stamp.{stamps_cmp}
 use Rattle.cga_order.specs.World.{World, IsEarlier, birth_of, stamp_of}
-use Rattle.cga_order.proofs.Door.{birth-child, birth-stamp, stamps_total}
+use Rattle.cga_order.specs.Total.{stamps_total}
+use Rattle.cga_order.proofs.Door.{birth-child, birth-stamp}
 use Rattle.cga_order.proofs.Door as stamps
 use Rattle.cga_agenda.specs.Edit.{Edit, IsEdit, new_world}
 

@@ -5,7 +5,7 @@ use Rattle.cga_agenda.specs.Edit.{Edit, new_world}
 use Rattle.cga_agenda.specs.Work.{StandOnce, NoneQueued, next_worked}
 use Rattle.cga_agenda.specs.Record.{IsRecord}
 use Rattle.cga_agenda.specs.Known.{made_by, next_known, IsOverBudget}
-use Rattle.cga_agenda.specs.Loop.{State, children_of, calls_of, Turns, TellsEach, Counts, Ends, IsReady, Knows, KnowsEach, IsDone}
+use Rattle.cga_agenda.specs.Loop.{LoopState, children_of, calls_of, Turns, TellsEach, Counts, Ends, IsReady, Knows, KnowsEach, IsDone}
 use Rattle.cga_agenda.specs.declared.ended.Ended.TheVariants.{Within, OverBudget}
 use Rattle.cga_agenda.proofs.Lists.{roots_once}
 use Rattle.cga_agenda.proofs.Turning as work
@@ -14,7 +14,7 @@ use Rattle.cga_agenda.proofs.Record as record_of
 use Rattle.cga_agenda.proofs.Budget as budgets
 use Rattle.cga_agenda.proofs.OverBudget as overs
 
-module _ {N A B F P : Type 0} (edit : Edit N A B F P) (start : List (Node N A F P)) (first : State N A F P) (roots calls : ℕ) (ready : IsReady edit start first roots) where
+module _ {N A B F P : Type 0} (edit : Edit N A B F P) (start : List (Node N A F P)) (first : LoopState N A F P) (roots calls : ℕ) (ready : IsReady edit start first roots) where
   pub knows_first : (known : ℕ) → known ≡ roots → Knows edit start first first 0 known calls calls
   knows_first known e = record {
     turned = [];
@@ -28,8 +28,8 @@ module _ {N A B F P : Type 0} (edit : Edit N A B F P) (start : List (Node N A F 
     calls_are = omega arith;
   }
 
-  module _ (now : State N A F P) (turns known since : ℕ) (k : Knows edit start first now turns known calls since) where
-    pub knows_next : (after : State N A F P) (children more then : ℕ) → more ≡ children
+  module _ (now : LoopState N A F P) (turns known since : ℕ) (k : Knows edit start first now turns known calls since) where
+    pub knows_next : (after : LoopState N A F P) (children more then : ℕ) → more ≡ children
         → Turns edit now after since then children → Knows edit start first after (turns + 1) (known + more) calls then
     knows_next after children more then e (s, expanded, turn, (went, came, change, gone_is, come_is), tells, called) = record {
       turned = s ∷ k.turned;
@@ -71,7 +71,7 @@ module _ {N A B F P : Type 0} (edit : Edit N A B F P) (start : List (Node N A F 
         calls_are = still ∙ k.calls_are;
       }
 
-module _ {N A B F P : Type 0} (was now after : Edit N A B F P → State N A F P → Type 0) (roots calls : ℕ) where
+module _ {N A B F P : Type 0} (was now after : Edit N A B F P → LoopState N A F P → Type 0) (roots calls : ℕ) where
   pub first_each : (known : ℕ) → known ≡ roots → KnowsEach was was roots 0 known calls calls
   first_each known e edit first means start ready = (first, means, knows_first edit start first roots calls ready known e)
 
@@ -89,8 +89,8 @@ module _ {N A B F P : Type 0} (was now after : Edit N A B F P → State N A F P 
           let h = k edit first means start ready in
           let t = idle edit h.0 h.1 in
           let size = counts edit t.0 t.1 in
-          let once = subst (λ (x : State N A F P). StandOnce x.nodes) t.2.same size.1 in
-          let number_is : number ≡ length h.0.nodes = subst (λ (x : State N A F P). number ≡ length x.nodes) t.2.same size.0 in
+          let once = subst (λ (x : LoopState N A F P). StandOnce x.nodes) t.2.same size.1 in
+          let number_is : number ≡ length h.0.nodes = subst (λ (x : LoopState N A F P). number ≡ length x.nodes) t.2.same size.0 in
           (t.0, t.1, over_late edit start first roots calls ready h.0 turns known since h.2 t.2.none_queued once budget (omega (arith, lt, number_is)))
 
       pub ends_done : (n : ℕ) → number ≤ budget → Ends was after roots budget calls then (Within n)
@@ -98,8 +98,8 @@ module _ {N A B F P : Type 0} (was now after : Edit N A B F P → State N A F P 
           let h = k edit first means start ready in
           let t = idle edit h.0 h.1 in
           let size = counts edit t.0 t.1 in
-          let once = subst (λ (x : State N A F P). StandOnce x.nodes) t.2.same size.1 in
-          let number_is : number ≡ length h.0.nodes = subst (λ (x : State N A F P). number ≡ length x.nodes) t.2.same size.0 in
+          let once = subst (λ (x : LoopState N A F P). StandOnce x.nodes) t.2.same size.1 in
+          let number_is : number ≡ length h.0.nodes = subst (λ (x : LoopState N A F P). number ≡ length x.nodes) t.2.same size.0 in
           (h.0, subst (after edit) t.2.same t.1, done edit start first roots calls ready h.0 turns known since h.2 t.2.none_queued once budget then t.2.no_call (omega (arith, le, number_is)))
 
   pub ends_early : (turns known since budget : ℕ) → (budget < known) ⊎ (budget < turns)

@@ -13,7 +13,8 @@ use Rattle.cga_order.specs.declared.placed.Kind.TheVariants.{Waiting}
 use Rattle.cga_order.specs.Run.{same_place, become, outcome, Reached, AllEarlier, Rises}
 use Rattle.cga_order.specs.Consistent.{IsBefore, IsConsistent, AllBefore, NothingWaits}
 use Rattle.cga_order.specs.Agenda.{Node, Keeps}
-use Rattle.cga_order.proofs.Door.{Once-append, Once-index, has_made, place_dec, snoc-same, stamps_total}
+use Rattle.cga_order.specs.Total.{stamps_total}
+use Rattle.cga_order.proofs.Door.{Once-append, Once-index, has_made, place_dec, snoc-same}
 use Rattle.std.proofs.lemmas.Bool.{cases_Bool as either}
 use Rattle.cga_order.proofs.Door as stamps
 use Rattle.cga_order.specs.Once.{Once}

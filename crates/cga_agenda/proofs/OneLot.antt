@@ -10,7 +10,7 @@ use Rattle.cga_order.specs.Agenda.{Node, Keeps, IsTree}
 use Rattle.cga_agenda.specs.Edit.{IsEdit, new_world}
 use Rattle.cga_agenda.specs.Work.{StandOnce, IsStart, IsBegun, Expands}
 use Rattle.cga_agenda.specs.Record.{IsChange}
-use Rattle.cga_agenda.specs.Loop.{State, Turns, IsIdle, TellsEach, Counts, IsReady}
+use Rattle.cga_agenda.specs.Loop.{LoopState, Turns, IsIdle, TellsEach, Counts, IsReady}
 use Rattle.cga_agenda.specs.OneLot.{one_lot, state_when, means_one_lot, ALotComes}
 
 abbrev K : Type 0

@@ -12,7 +12,8 @@ use Rattle.cga_order.specs.declared.placed.Kind.TheVariants.{Waiting}
 use Rattle.cga_order.specs.Run.{outcome, told, start, IsStep, Reached}
 use Rattle.cga_order.specs.Consistent.{NothingWaits}
 use Rattle.cga_order.specs.Agenda.{Node, members_of, Keeps}
-use Rattle.cga_order.proofs.Door.{all_before, has_members, length-once, length-taken, rank_total, right_consistent, waits}
+use Rattle.cga_order.specs.Total.{rank_total}
+use Rattle.cga_order.proofs.Door.{all_before, has_members, length-once, length-taken, right_consistent, waits}
 use Rattle.std.proofs.lemmas.Bool.{cases_Bool as either}
 use Rattle.cga_order.proofs.Door as stamps
 use Rattle.cga_agenda.specs.Edit.{Edit, IsEdit, new_world}

@@ -9,7 +9,8 @@ use Rattle.cga_order.specs.declared.placed.Kind.{Kind}
 use Rattle.cga_order.specs.declared.placed.Kind.TheVariants.{Waiting, Done, Faulted, Instance}
 use Rattle.cga_order.specs.Consistent.{Stands}
 use Rattle.cga_order.specs.Agenda.{Node, members_of, Keeps, HasChildren, IsSettled, IsRight, Remains, IsTree}
-use Rattle.cga_order.proofs.Door.{Has-Keeps, Keeps-Has, snoc-same, stamps_total}
+use Rattle.cga_order.specs.Total.{stamps_total}
+use Rattle.cga_order.proofs.Door.{Has-Keeps, Keeps-Has, snoc-same}
 use Rattle.cga_order.proofs.Door as steps
 use Rattle.cga_agenda.specs.Edit.{Side, Edit, IsEdit, world_of, old_world, new_world, renewed, NonInstance, KeptAt}
 use Rattle.cga_agenda.specs.Work.{first_kind, renewed_child, HasRenewed, IsStart}

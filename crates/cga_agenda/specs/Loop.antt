@@ -10,7 +10,7 @@ use Rattle.cga_agenda.specs.Record.{Drawn, IsChange, IsRecord}
 use Rattle.cga_agenda.specs.Known.{made_by, IsOverBudget, IsKnown}
 
 -- the nodes, which of them are on the agenda, and the record so far
-pub record State (N A F P : Type 0) : Type 0 where
+pub record LoopState (N A F P : Type 0) : Type 0 where
   pub nodes : List (Node N A F P)
   pub queued : N → Bool
   pub gone : List (Drawn N P)
@@ -42,14 +42,14 @@ module _ {N A B F P : Type 0} (edit : Edit N A B F P) where
   children_of before s false = 0
 
   -- what went and came in a turn stands behind the record so far
-  abbrev pub Records : State N A F P → State N A F P → Type 0
+  abbrev pub Records : LoopState N A F P → LoopState N A F P → Type 0
   Records before after =
       (went : List (Drawn N P)) × (came : List (Drawn N P))
       × IsChange before.nodes after.nodes went came
       × (after.gone ≡ before.gone ++ went) × (after.come ≡ before.come ++ came)
 
   -- a turn, of which so many children came by a call of expand, with so many calls before and after it
-  abbrev pub Turns : State N A F P → State N A F P → ℕ → ℕ → ℕ → Type 0
+  abbrev pub Turns : LoopState N A F P → LoopState N A F P → ℕ → ℕ → ℕ → Type 0
   Turns before after calls since children =
       (s : N) × (expanded : Bool)
       × IsTurnOf edit before.nodes after.nodes s before.queued after.queued expanded
@@ -58,19 +58,19 @@ module _ {N A B F P : Type 0} (edit : Edit N A B F P) where
       × (since ≡ calls + calls_of expanded)
 
   -- nothing is on the agenda, and nothing is done
-  pub record IsIdle (before after : State N A F P) (calls since : ℕ) : Type 0 where
+  pub record IsIdle (before after : LoopState N A F P) (calls since : ℕ) : Type 0 where
     pub same : after ≡ before
     pub none_queued : NoneQueued edit before.nodes before.queued
     pub no_call : since ≡ calls
 
   -- what a turn tells: how many children came, and nothing where there was no turn to do
-  abbrev pub Tells : State N A F P → State N A F P → ℕ → ℕ → Option ℕ → Type 0
+  abbrev pub Tells : LoopState N A F P → LoopState N A F P → ℕ → ℕ → Option ℕ → Type 0
   Tells before after calls since None = IsIdle before after calls since
   Tells before after calls since (Some children) = Turns before after calls since children
 
   -- before the first turn of an edit that starts from these nodes: the roots that went and came are
   -- told, and so many of them there are now
-  pub record IsReady (start : List (Node N A F P)) (first : State N A F P) (number : ℕ) : Type 0 where
+  pub record IsReady (start : List (Node N A F P)) (first : LoopState N A F P) (number : ℕ) : Type 0 where
     pub laws : IsEdit edit
     pub started : IsStart edit start
     pub begun : IsBegun edit start first.nodes first.queued
@@ -79,7 +79,7 @@ module _ {N A B F P : Type 0} (edit : Edit N A B F P) where
     pub roots : number ≡ length edit.new.roots
 
   -- what the loop keeps: so many turns after the first state, where so many members are known
-  pub record Knows (start : List (Node N A F P)) (first now : State N A F P) (turns known calls since : ℕ) : Type 0 where
+  pub record Knows (start : List (Node N A F P)) (first now : LoopState N A F P) (turns known calls since : ℕ) : Type 0 where
     pub turned : List N
     pub worked : List N
     pub learnt : List N
@@ -92,7 +92,7 @@ module _ {N A B F P : Type 0} (edit : Edit N A B F P) where
 
   -- the new derivation is within the budget, and the work is done: of the shapes that had their turn
   -- these were expanded, each by one call
-  pub record IsDone (start : List (Node N A F P)) (last : State N A F P) (budget calls since : ℕ) : Type 0 where
+  pub record IsDone (start : List (Node N A F P)) (last : LoopState N A F P) (budget calls since : ℕ) : Type 0 where
     pub within : IsOverBudget (new_world edit) budget → ⊥
     pub turned : List N
     pub worked : List N
@@ -103,35 +103,35 @@ module _ {N A B F P : Type 0} (edit : Edit N A B F P) where
     pub calls_are : since ≡ calls + length worked
 
   -- how the loop ends, with so many calls before and after it
-  abbrev pub IsEnded : List (Node N A F P) → State N A F P → ℕ → ℕ → ℕ → Ended → Type 0
+  abbrev pub IsEnded : List (Node N A F P) → LoopState N A F P → ℕ → ℕ → ℕ → Ended → Type 0
   IsEnded start last budget calls since (Within n) = IsDone start last budget calls since
   IsEnded start last budget calls since OverBudget = IsOverBudget (new_world edit) budget
 
 -- what a turn tells is so of each state that the worker means, and it means the state after the turn
-abbrev pub TellsEach : {N A B F P : Type 0} → (Edit N A B F P → State N A F P → Type 0)
-    → (Edit N A B F P → State N A F P → Type 0) → ℕ → ℕ → Option ℕ → Type 0
+abbrev pub TellsEach : {N A B F P : Type 0} → (Edit N A B F P → LoopState N A F P → Type 0)
+    → (Edit N A B F P → LoopState N A F P → Type 0) → ℕ → ℕ → Option ℕ → Type 0
 TellsEach {N} {A} {B} {F} {P} was is calls since turned =
-    (edit : Edit N A B F P) (before : State N A F P) → was edit before
-    → (after : State N A F P) × is edit after × Tells edit before after calls since turned
+    (edit : Edit N A B F P) (before : LoopState N A F P) → was edit before
+    → (after : LoopState N A F P) × is edit after × Tells edit before after calls since turned
 
 -- from whatever edit and first state the worker means, and whatever nodes the edit started from, if these are ready
-abbrev pub Ends : {N A B F P : Type 0} → (Edit N A B F P → State N A F P → Type 0)
-    → (Edit N A B F P → State N A F P → Type 0) → ℕ → ℕ → ℕ → ℕ → Ended → Type 0
+abbrev pub Ends : {N A B F P : Type 0} → (Edit N A B F P → LoopState N A F P → Type 0)
+    → (Edit N A B F P → LoopState N A F P → Type 0) → ℕ → ℕ → ℕ → ℕ → Ended → Type 0
 Ends {N} {A} {B} {F} {P} was is roots budget calls since ended =
-    (edit : Edit N A B F P) (first : State N A F P) → was edit first
+    (edit : Edit N A B F P) (first : LoopState N A F P) → was edit first
     → (start : List (Node N A F P)) → IsReady edit start first roots
-    → (last : State N A F P) × is edit last × IsEnded edit start last budget calls since ended
+    → (last : LoopState N A F P) × is edit last × IsEnded edit start last budget calls since ended
 
 -- what the loop keeps of each edit and first state that the worker meant
-abbrev pub KnowsEach : {N A B F P : Type 0} → (Edit N A B F P → State N A F P → Type 0)
-    → (Edit N A B F P → State N A F P → Type 0) → ℕ → ℕ → ℕ → ℕ → ℕ → Type 0
+abbrev pub KnowsEach : {N A B F P : Type 0} → (Edit N A B F P → LoopState N A F P → Type 0)
+    → (Edit N A B F P → LoopState N A F P → Type 0) → ℕ → ℕ → ℕ → ℕ → ℕ → Type 0
 KnowsEach {N} {A} {B} {F} {P} was now roots turns known calls since =
-    (edit : Edit N A B F P) (first : State N A F P) → was edit first
+    (edit : Edit N A B F P) (first : LoopState N A F P) → was edit first
     → (start : List (Node N A F P)) → IsReady edit start first roots
-    → (state : State N A F P) × now edit state × Knows edit start first state turns known calls since
+    → (state : LoopState N A F P) × now edit state × Knows edit start first state turns known calls since
 
 -- so many nodes there are in each state that the worker means, and each stands once
-abbrev pub Counts : {N A B F P : Type 0} → (Edit N A B F P → State N A F P → Type 0) → ℕ → Type 0
+abbrev pub Counts : {N A B F P : Type 0} → (Edit N A B F P → LoopState N A F P → Type 0) → ℕ → Type 0
 Counts {N} {A} {B} {F} {P} now number =
-    (edit : Edit N A B F P) (state : State N A F P) → now edit state
+    (edit : Edit N A B F P) (state : LoopState N A F P) → now edit state
     → (number ≡ length state.nodes) × StandOnce state.nodes

@@ -3,7 +3,7 @@ use Rattle.std.specs.Prelude.{◌≡◌, ℕ, List, [], ◌∷◌, Bool, true, f
 use Rattle.cga_word.specs.declared.mode.Mode.TheVariants.{Breadth}
 use Rattle.cga_order.specs.declared.placed.Kind.TheVariants.{Waiting, Done}
 use Rattle.cga_agenda.specs.Edit.{Side, Edit}
-use Rattle.cga_agenda.specs.Loop.{State, Turns, IsIdle, IsReady}
+use Rattle.cga_agenda.specs.Loop.{LoopState, Turns, IsIdle, IsReady}
 
 -- a side with these roots, in which nothing is asked
 abbrev pub side : List ℕ → Side ℕ ℕ ℕ ℕ ℕ
@@ -26,7 +26,7 @@ one_lot = record {
 }
 
 -- the root waits on the agenda, and then it is done
-abbrev pub state_when : Bool → State ℕ ℕ ℕ ℕ
+abbrev pub state_when : Bool → LoopState ℕ ℕ ℕ ℕ
 state_when false = record {
   nodes = record { shape = 0; kind = Waiting; answers = 0 } ∷ [];
   queued = λ n. true;
@@ -41,7 +41,7 @@ state_when true = record {
 }
 
 -- what a worker on it means, once it is done or before
-abbrev pub means_one_lot : Bool → Edit ℕ ℕ ℕ ℕ ℕ → State ℕ ℕ ℕ ℕ → Type 0
+abbrev pub means_one_lot : Bool → Edit ℕ ℕ ℕ ℕ ℕ → LoopState ℕ ℕ ℕ ℕ → Type 0
 means_one_lot done edit state = (edit ≡ one_lot) × (state ≡ state_when done)
 
 -- the loop may begin, has one turn, and is idle then

@@ -1,6 +1,6 @@
 ghost use Rattle.std.specs.Prelude.{◌≡◌, ◌+◌, ◌≤◌, IfOk};
 ghost use Rattle.cga_agenda.specs.Edit.{Edit};
-ghost use Rattle.cga_agenda.specs.Loop.{State, TellsEach, Counts, children_told, calls_told};
+ghost use Rattle.cga_agenda.specs.Loop.{LoopState, TellsEach, Counts, children_told, calls_told};
 
 use crate::turned::Turned;
 use cga_fraction::{NoMemory, Steps, Tests};
@@ -24,7 +24,7 @@ pub trait Worker {
     ghost Solid: { Type 0 };
 
     // for what edit it works, and where its work stands
-    ghost means: { Self → Edit Shape Answers Setting Fault Solid → State Shape Answers Fault Solid → Type 0 };
+    ghost means: { Self → Edit Shape Answers Setting Fault Solid → LoopState Shape Answers Fault Solid → Type 0 };
 
     // what of it the second leaves as it was in the first
     ghost keeps: { Self → Self → Type 0 };

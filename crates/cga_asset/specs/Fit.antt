@@ -8,7 +8,7 @@ use Rattle.cga_fraction.specs.Refusals.{checked, is_zero}
 use Rattle.cga_fraction.specs.Results.{and_then}
 use Rattle.cga_fraction.specs.declared.overflow.Overflow.{Overflow}
 use Rattle.cga_frame.specs.Points.{checked_point, coordinate}
-use Rattle.cga_frame.specs.Scope.{Scope, place_of}
+use Rattle.cga_frame.specs.Scope.{Scope, world_point}
 use Rattle.cga_frame.specs.declared.point.Point.{Point}
 use Rattle.cga_solid.specs.declared.solid_mesh.SolidMesh.{SolidMesh}
 use Rattle.cga_word.specs.declared.axis.Axis.{Axis}
@@ -44,7 +44,7 @@ point_in spans size p =
 
 -- a vertex of the asset in the world
 unfoldable pub fitted_point : Spans → Scope → Point → Result Point Overflow
-fitted_point spans s p = and_then (point_in spans s.size p) (λ local. checked_point (place_of s.at s.frame local))
+fitted_point spans s p = and_then (point_in spans s.size p) (λ local. checked_point (world_point s.at s.frame local))
 
 abbrev pub all_fitted : Spans → Scope → List Point → Result (List Point) Overflow
 all_fitted spans s [] = Ok []

@@ -103,7 +103,7 @@ fn ask_first_leaf<T: Ledger>(target: Target, tests: &mut Tests<T>) -> Answer
 
 #[tactic(auto, using(crate::proofs::TwoRoots::keeps_laws))]
 fn askers<T: Ledger>(alloc: Global, tests: &mut Tests<T>) -> Result<List<NodeId>, NoMemory> {
-    queriers_meeting(alloc, &TwoRoots, &box_of(NodeId::new(2)), tests)
+    queriers_meeting(alloc, &TwoRoots, &box_of(NodeId::new(2)), tests, &mut 0)
 }
 
 // What the first leaf is answered for each target, and how many ask where its box is.

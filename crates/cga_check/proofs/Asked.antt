@@ -7,7 +7,7 @@ use Rattle.cga_word.specs.declared.target.Target.{Target}
 use Rattle.cga_rule.specs.declared.rule.Rule.{Rule}
 use Rattle.cga_rule.specs.declared.grammar.Entry.{Entry}
 use Rattle.cga_rule.specs.declared.grammar.Grammar.{Grammar}
-use Rattle.cga_check.specs.Groups.{is_of, first_entry, rules_of, place_of, placed, placed_all, by_id, group_with, group, names, asks, mentions_attribute, mentions_target, group_asks, group_names}
+use Rattle.cga_check.specs.Groups.{is_of, first_entry, rules_of, rule_index, placed, placed_all, by_id, group_with, group, names, asks, mentions_attribute, mentions_target, group_asks, group_names}
 use Rattle.cga_fraction.proofs.Door.{or-false}
 
 or_none : (b c : Bool) → (b || (false || c)) ≡ (b || c)
@@ -22,7 +22,7 @@ or_swap false false c = refl
 module _ (p : Rule → Bool) where
   any_placed : (r : Rule) (rs : List Rule) → list_any p (placed r rs) ≡ (p r || list_any p rs)
   unfolding placed
-  any_placed r rs = sym (list_any-IsPermutation p (r ∷ rs) (insert rs (place_of r.id rs) r) (IsPermutation-insert rs (place_of r.id rs) r))
+  any_placed r rs = sym (list_any-IsPermutation p (r ∷ rs) (insert rs (rule_index r.id rs) r) (IsPermutation-insert rs (rule_index r.id rs) r))
 
   any_all : (rs more : List Rule) → list_any p (placed_all rs more) ≡ (list_any p rs || list_any p more)
   any_all rs [] = sym (or-false (list_any p rs))

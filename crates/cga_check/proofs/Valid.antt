@@ -11,7 +11,7 @@ use Rattle.cga_rule.specs.declared.grammar.Grammar.{Grammar}
 use Rattle.cga_check.specs.declared.usage.Use.{Use}
 use Rattle.cga_check.specs.declared.usage.Use.TheVariants.{Answer, Child, Parts, Named}
 use Rattle.cga_check.specs.Uses.{rule_uses}
-use Rattle.cga_check.specs.Groups.{is_of, first_entry, rules_of, placed, placed_all, by_id, place_of}
+use Rattle.cga_check.specs.Groups.{is_of, first_entry, rules_of, placed, placed_all, by_id, rule_index}
 use Rattle.cga_check.specs.Probabilities.{is_probability, are_probabilities}
 use Rattle.cga_check.specs.Faults.{IsValid, each_after, rule_faults, head_faults, symbol_faults, param_faults, use_faults, child_faults}
 use Rattle.cga_check.specs.Validity.{SymbolsAgree, Agrees, Takes, IsMet, ChildrenHaveRules, AddUp, ProbabilitiesAddUp}
@@ -115,7 +115,7 @@ placed_all_all : (P : Rule → Type 0) (ranked rules : List Rule) → All P rank
 unfolding placed
 placed_all_all P ranked [] a b = a
 placed_all_all P ranked (r ∷ rs) a b =
-    let at : ℕ = place_of r.id ranked in
+    let at : ℕ = rule_index r.id ranked in
     placed_all_all P (placed r ranked) rs (All-append P _ (r ∷ _) (All-take P at ranked a) (All-cons P r _ (All-head P r rs b) (All-drop P at ranked a))) (All-tail P r rs b)
 
 -- what holds of each of some rules holds of each of them by rising id

@@ -9,7 +9,7 @@ use Rattle.cga_order.specs.declared.placed.Kind.{Kind}
 use Rattle.cga_order.proofs.Door.{Once-index, count-once, length-once}
 use Rattle.cga_shape.specs.declared.shape_fault.ShapeFault.{ShapeFault}
 use Rattle.cga_expand.specs.Children.{Member}
-use Rattle.cga_forest.specs.declared.entry.Entry.{Entry}
+use Rattle.cga_forest.specs.declared.slot_entry.SlotEntry.{SlotEntry}
 use Rattle.cga_forest.specs.Count.{is_shown_as, tally}
 use Rattle.cga_forest.specs.View.{Seen, is_shown, present_of, seen, slot}
 use Rattle.cga_forest.specs.Tree.{ForestView, IsForest}
@@ -19,17 +19,17 @@ use Rattle.cga_city.proofs.LotNodes.{at_to, at_from, at_rest}
 use Rattle.cga_city.proofs.Nodes.{among_has, has_among}
 
 -- the members that the nodes of these slots are
-abbrev shown : List (Option Entry) → List Member
+abbrev shown : List (Option SlotEntry) → List Member
 shown [] = []
 shown (s ∷ rest) = members_at (present_of s) ++ shown rest
 
 -- no two are the same
-abbrev AreApartIn : List (Option Entry) → Type 0
+abbrev AreApartIn : List (Option SlotEntry) → Type 0
 AreApartIn slots =
     (c d : ℕ) (x y : Seen) → present_of (slot slots c) ≡ Some x → present_of (slot slots d) ≡ Some y
     → member_of x.node ≡ member_of y.node → c ≡ d
 
-shown_to : (slots : List (Option Entry)) (m : Member) → Among m (shown slots)
+shown_to : (slots : List (Option SlotEntry)) (m : Member) → Among m (shown slots)
     → (c : ℕ) × (d : Seen) × (present_of (slot slots c) ≡ Some d) × (member_of d.node ≡ m)
 shown_to [] m h = absurd h
 shown_to (s ∷ rest) m h = elim (at_to (present_of s) (shown rest) m h) [
@@ -37,7 +37,7 @@ shown_to (s ∷ rest) m h = elim (at_to (present_of s) (shown rest) m h) [
   | inr r ↦ let w = shown_to rest m r in (suc w.0, w.1, w.2, w.3)
 ]
 
-shown_from : (slots : List (Option Entry)) (c : ℕ) (d : Seen) → present_of (slot slots c) ≡ Some d
+shown_from : (slots : List (Option SlotEntry)) (c : ℕ) (d : Seen) → present_of (slot slots c) ≡ Some d
     → Among (member_of d.node) (shown slots)
 shown_from [] c d h = cc
 shown_from (s ∷ rest) zero d h = at_from (present_of s) (shown rest) d h
@@ -48,7 +48,7 @@ one_once : (o : Option Seen) (rest : List Member)
 one_once None rest new h = h
 one_once (Some d) rest new h = (new d refl, h)
 
-shown_once : (slots : List (Option Entry)) → AreApartIn slots → Once (shown slots)
+shown_once : (slots : List (Option SlotEntry)) → AreApartIn slots → Once (shown slots)
 shown_once [] h = tt
 shown_once (s ∷ rest) h = one_once (present_of s) (shown rest)
     (λ d at i. let w = shown_to rest (member_of d.node) i in let e : 0 ≡ suc w.0 = h 0 (suc w.0) d w.1 at w.2 (sym w.3) in absurd (omega (arith, e)))
@@ -63,7 +63,7 @@ module _ (test : Kind ShapeFault Primitive → Bool) where
       → count_by passes (members_at o ++ rest) ≡ count_by passes (members_at o) + count_by passes rest
   count_first o rest = sum_by-append (λ m. cond (passes m) 1 0) (members_at o) rest
 
-  count_one : (s : Option Entry) → count_by passes (members_at (present_of s)) ≡ cond (is_shown_as test s) 1 0
+  count_one : (s : Option SlotEntry) → count_by passes (members_at (present_of s)) ≡ cond (is_shown_as test s) 1 0
   count_one None = refl
   count_one (Some e) = by_flag e.aside
     where
@@ -72,7 +72,7 @@ module _ (test : Kind ShapeFault Primitive → Bool) where
       by_flag true = refl
       by_flag false = let one = sum_by-cons (λ m. cond (passes m) 1 0) (member_of e.node) [] in omega (arith, one)
 
-  shown_count : (slots : List (Option Entry)) → count_by passes (shown slots) ≡ tally (is_shown_as test) slots
+  shown_count : (slots : List (Option SlotEntry)) → count_by passes (shown slots) ≡ tally (is_shown_as test) slots
   shown_count [] = refl
   shown_count (s ∷ rest) =
       let a = count_first (present_of s) (shown rest) in
@@ -80,16 +80,16 @@ module _ (test : Kind ShapeFault Primitive → Bool) where
       let c = shown_count rest in
       omega (arith, a, b, c)
 
-shown_length : (slots : List (Option Entry)) → length (shown slots) ≡ tally is_shown slots
+shown_length : (slots : List (Option SlotEntry)) → length (shown slots) ≡ tally is_shown slots
 shown_length [] = refl
 shown_length (s ∷ rest) = let a = first s in let b = shown_length rest in omega (arith, a, b)
   where
-    by_flag : (e : Entry) (b : Bool)
+    by_flag : (e : SlotEntry) (b : Bool)
         → length (members_at (if b then None else Some (seen e)) ++ shown rest) ≡ cond (not b) 1 0 + length (shown rest)
     by_flag e true = omega arith
     by_flag e false = omega arith
 
-    first : (s : Option Entry)
+    first : (s : Option SlotEntry)
         → length (members_at (present_of s) ++ shown rest) ≡ cond (is_shown s) 1 0 + length (shown rest)
     first None = omega arith
     first (Some e) = by_flag e e.aside

@@ -48,14 +48,14 @@ impl Dependents {
         ensures nodes { OnOk result ((s : List ℕ) → nodes_in self.new s ≡ (if same_name symbol s then with_node (nodes_in self.old s) node else nodes_in self.old s)) }
         ensures err { OnErr result (self.new ≡ self.old) }
     {
-        match self.place_of(symbol) {
+        match self.symbol_index(symbol) {
             Some(place) => add_at(&mut self.nodes, place, symbol, node),
             None => add_first(self.alloc, &mut self.nodes, symbol, node),
         }
     }
 
     /// Where a symbol stands. The latest symbols are found without a look at the table.
-    fn place_of(&mut self, symbol: Name) -> Option<usize>
+    fn symbol_index(&mut self, symbol: Name) -> Option<usize>
         ensures found { IfSome result (λ place. IsAt self.new.nodes place symbol) }
         ensures none { IfNone result (lookup (same_name symbol) self.new.nodes ≡ None) }
         ensures same { self.new ≡ self.old }
@@ -77,7 +77,7 @@ impl Dependents {
         ensures others { (s : List ℕ) → same_name symbol s ≡ false → nodes_in self.new s ≡ nodes_in self.old s }
         ensures same { result ≡ false → self.new ≡ self.old }
     {
-        match self.place_of(symbol) {
+        match self.symbol_index(symbol) {
             Some(place) => take_at(&mut self.nodes, place, symbol, node),
             None => false,
         }

@@ -12,7 +12,8 @@ use Rattle.cga_order.specs.declared.placed.Kind.{Kind}
 use Rattle.cga_order.specs.declared.placed.Kind.TheVariants.{Waiting, Done, Faulted, Instance}
 use Rattle.cga_order.specs.World.{Has, is_waiting}
 use Rattle.cga_order.proofs.Door as ranks
-use Rattle.cga_order.proofs.Door.{Has-index, rank_total}
+use Rattle.cga_order.specs.Total.{rank_total}
+use Rattle.cga_order.proofs.Door.{Has-index}
 use Rattle.std.proofs.lemmas.Bool.{cases_Bool as either}
 use Rattle.cga_derivation.specs.Derivation.{Derivation, IsDerivation, first_of, rank_of, is_next, next_of, told, outcome, asked, step_by, step, reached, derive, AllApart, NothingWaits}
 use Rattle.cga_derivation.specs.Turns.{expanded_in}

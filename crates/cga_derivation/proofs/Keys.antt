@@ -19,7 +19,8 @@ use Rattle.cga_order.specs.declared.placed.Kind.TheVariants.{Waiting}
 use Rattle.cga_order.specs.World.{Has, Among, IsEarlier, stamp_of}
 use Rattle.cga_order.specs.Run as run
 use Rattle.cga_order.proofs.Door as steps
-use Rattle.cga_order.proofs.Door.{Among-All, Has-index, slice_get-Has, slice_get-append, slice_get-map, slice_get-within, stamp_total, stamps-place}
+use Rattle.cga_order.specs.Total.{stamp_total}
+use Rattle.cga_order.proofs.Door.{Among-All, Has-index, slice_get-Has, slice_get-append, slice_get-map, slice_get-within, stamps-place}
 use Rattle.std.proofs.lemmas.Bool.{cases_Bool as either}
 use Rattle.cga_derivation.proofs.Lists.{some_same, none_some}
 use Rattle.cga_derivation.specs.Derivation.{Derivation, place_of, same_place, become, AllApart}

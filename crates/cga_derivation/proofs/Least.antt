@@ -11,7 +11,8 @@ use Rattle.cga_order.specs.declared.placed.Placed.{Placed}
 use Rattle.cga_order.specs.declared.placed.Kind.{Kind}
 use Rattle.cga_order.specs.declared.placed.Kind.TheVariants.{Waiting, Done, Faulted, Instance}
 use Rattle.cga_order.specs.World.{World, Has, is_waiting, IsEarlier, stamp_of}
-use Rattle.cga_order.proofs.Door.{rank-before, rank_total}
+use Rattle.cga_order.specs.Total.{rank_total}
+use Rattle.cga_order.proofs.Door.{rank-before}
 use Rattle.std.proofs.lemmas.Bool.{cases_Bool as either}
 use Rattle.cga_order.proofs.Door as steps
 use Rattle.cga_derivation.specs.Derivation.{Derivation, rank_of, is_next, first_of}

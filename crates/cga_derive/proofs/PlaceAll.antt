@@ -7,7 +7,7 @@ use Rattle.cga_derivation.proofs.Door.{apart-left}
 use Rattle.cga_fraction.proofs.Door.{length-map, map-append}
 use Rattle.std.proofs.Common.{append_assoc as append_assoc_one}
 use Rattle.cga_shape.specs.declared.sources.Sources.{Sources}
-use Rattle.cga_key.specs.declared.stamp_key.StampKey.{StampKey}
+use Rattle.cga_order.specs.declared.stamp_key.StampKey.{StampKey}
 use Rattle.cga_shape.specs.declared.emitted.Emitted.{Emitted}
 use Rattle.cga_expand.specs.Children.{Member, placed_at, placed_from}
 use Rattle.cga_expand.specs.Derivation.{derivation_of}

@@ -9,18 +9,18 @@ use Rattle.cga_order.specs.declared.placed.Kind.TheVariants.{Waiting, Instance}
 use Rattle.cga_derivation.specs.Sites.{sited, chain_of}
 use Rattle.cga_derivation.proofs.Door.{fitted-same, key-push, key-skip}
 use Rattle.cga_fraction.proofs.Door.{None-not-Some as none_some, same_Some as some_same}
-use Rattle.cga_key.proofs.Door.{agrees}
+use Rattle.cga_order.proofs.Door.{agrees}
 use Rattle.cga_shape.specs.declared.sources.Sources.{Sources}
-use Rattle.cga_key.specs.declared.stamp_key.StampKey.{StampKey}
+use Rattle.cga_order.specs.declared.stamp_key.StampKey.{StampKey}
 use Rattle.cga_shape.specs.declared.emitted.Emitted.{Emitted}
 use Rattle.cga_shape.specs.declared.emitted.Emitted.TheVariants.{Child, Solid}
 use Rattle.cga_shape.specs.declared.shape_fault.ShapeFault.{ShapeFault}
 use Rattle.cga_expand.specs.Derivation.{priority_of}
 use Rattle.cga_expand.specs.Children.{Member, placed_at}
 use Rattle.cga_expand.specs.Derivation.{derivation_of}
-use Rattle.cga_key.specs.Key.{chain_of_key, key_cmp}
+use Rattle.cga_order.specs.Key.{chain_of_key, key_cmp}
 use Rattle.cga_derive.specs.Run.{AddsKey, KeepsKeys, HasKeys, waiting_symbol}
-use Rattle.cga_key.specs.Children.{IsChildKey}
+use Rattle.cga_order.specs.ChildKeys.{IsChildKey}
 
 module _ (sources : Sources) (parent : StampKey) (own : List ℕ) (index : ℕ) (list : List Member) (old new : List (StampKey × ℕ)) where
   pub child-keys : (symbol : List ℕ) (args : List Rat) (scope : Scope) (seed : ℕ) (key : StampKey) (place : ℕ)

@@ -4,20 +4,20 @@ use Rattle.std.specs.BTreeMap.{insert_entry}
 use Rattle.cga_order.specs.declared.placed.Kind.TheVariants.{Waiting}
 use Rattle.cga_expand.proofs.Door.{root_is, roots_of-append, sources_are_derivations}
 use Rattle.cga_fraction.proofs.Door.{length-map, map-append, take-all}
-use Rattle.cga_key.proofs.Door.{agrees}
+use Rattle.cga_order.proofs.Door.{agrees}
 use Rattle.cga_derivation.specs.Sites.{chain_of}
 use Rattle.cga_derivation.proofs.Door as ends
 use Rattle.cga_shape.specs.declared.lot.Lot.{Lot}
 use Rattle.cga_shape.specs.declared.sources.Sources.{Sources}
-use Rattle.cga_key.specs.declared.stamp_key.StampKey.{StampKey}
+use Rattle.cga_order.specs.declared.stamp_key.StampKey.{StampKey}
 use Rattle.cga_expand.specs.Derivation.{priority_of}
 use Rattle.cga_expand.specs.Children.{Member}
 use Rattle.cga_shape.specs.Root.{root_of}
 use Rattle.cga_shape.specs.declared.shape.Shape.{Shape}
 use Rattle.cga_expand.specs.Derivation.{made, roots_of, derivation_of, NamesDiffer}
-use Rattle.cga_key.specs.Key.{chain_of_key, key_cmp}
+use Rattle.cga_order.specs.Key.{chain_of_key, key_cmp}
 use Rattle.cga_derive.specs.Run.{Sites, HasKeys, IsAfter}
-use Rattle.cga_key.specs.Children.{IsRootKey}
+use Rattle.cga_order.specs.ChildKeys.{IsRootKey}
 
 -- the roots of so many lots, all waiting, and the same as sites
 abbrev pub roots_up : List Lot → ℕ → List Member

@@ -8,8 +8,7 @@ use Rattle.cga_order.proofs.Door as steps
 use Rattle.cga_derivation.proofs.Door.{Has-erased, derive-some, erase-sites, expanded-settled, key-next, next-along, option_of, reached-sites, world}
 use Rattle.cga_expand.proofs.Door.{length-placed_from, sources_are_derivations}
 use Rattle.cga_fraction.proofs.Door.{None-not-Some as none_some, same_Some as some_same, slice_get-map_Some}
-use Rattle.cga_key.proofs.Door.{agrees}
-use Rattle.cga_order.proofs.Door.{Has-index, slice_get-Has}
+use Rattle.cga_order.proofs.Door.{agrees, Has-index, slice_get-Has}
 use Rattle.cga_derivation.specs.Derivation.{asked, derive, next_of, reached, NothingWaits}
 use Rattle.cga_derivation.specs.Sites.{erased, erase, sites, taken, world_of}
 use Rattle.cga_derivation.specs.Turns.{expanded_in}
@@ -19,8 +18,8 @@ use Rattle.cga_shape.specs.declared.shape_fault.ShapeFault.{ShapeFault}
 use Rattle.cga_shape.specs.declared.sources.Sources.{Sources}
 use Rattle.cga_shape.specs.declared.trace_step.Outcome.{Outcome}
 use Rattle.cga_shape.specs.declared.trace_step.Outcome.TheVariants.{Grew, Faulted}
-use Rattle.cga_key.specs.declared.stamp_key.StampKey.{StampKey}
-use Rattle.cga_key.specs.Key.{chain_of_key, key_cmp}
+use Rattle.cga_order.specs.declared.stamp_key.StampKey.{StampKey}
+use Rattle.cga_order.specs.Key.{chain_of_key, key_cmp}
 use Rattle.cga_expand.specs.Children.{Member, placed_by}
 use Rattle.cga_expand.specs.Derivation.{derivation_of, NamesDiffer}
 use Rattle.cga_expand.specs.Expand.{expand_of}

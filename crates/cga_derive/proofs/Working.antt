@@ -17,16 +17,16 @@ use Rattle.cga_derivation.specs.Derivation.{expanded}
 use Rattle.cga_derivation.proofs.Door.{derived-reached, in_order, rises}
 use Rattle.cga_expand.proofs.Door.{sources_are_derivations}
 use Rattle.cga_fraction.proofs.Door.{lt-length_from_slice_get as within, same_Some as some_same}
-use Rattle.cga_key.proofs.Door.{agrees}
+use Rattle.cga_order.proofs.Door.{agrees}
 use Rattle.cga_derivation.proofs.Door as turns
 use Rattle.cga_shape.specs.declared.sources.Sources.{Sources}
-use Rattle.cga_key.specs.declared.stamp_key.StampKey.{StampKey}
+use Rattle.cga_order.specs.declared.stamp_key.StampKey.{StampKey}
 use Rattle.cga_shape.specs.declared.shape_fault.ShapeFault.{ShapeFault}
 use Rattle.cga_shape.specs.declared.emitted.Emitted.{Emitted}
 use Rattle.cga_expand.specs.Expand.{expand_of}
 use Rattle.cga_expand.specs.Children.{Member, placed_from, placed_by}
 use Rattle.cga_expand.specs.Derivation.{children_of, derivation_of, NamesDiffer}
-use Rattle.cga_key.specs.Key.{chain_of_key, key_cmp}
+use Rattle.cga_order.specs.Key.{chain_of_key, key_cmp}
 use Rattle.cga_derive.specs.Run.{Sites, HasKeys, KeepsKeys, sited_children, IsAfter, IsInTurnOf}
 use Rattle.cga_check.specs.Said.{said}
 use Rattle.cga_check.specs.declared.said.Said.{Said}

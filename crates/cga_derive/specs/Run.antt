@@ -9,13 +9,13 @@ use Rattle.cga_word.specs.declared.primitive.Primitive.{Primitive}
 use Rattle.cga_shape.specs.declared.sources.Sources.{Sources}
 use Rattle.cga_shape.specs.declared.shape.Shape.{Shape}
 use Rattle.cga_shape.specs.declared.shape_fault.ShapeFault.{ShapeFault}
-use Rattle.cga_key.specs.declared.stamp_key.StampKey.{StampKey}
+use Rattle.cga_order.specs.declared.stamp_key.StampKey.{StampKey}
 use Rattle.cga_shape.specs.declared.emitted.Emitted.{Emitted}
 use Rattle.cga_shape.specs.declared.emitted.Emitted.TheVariants.{Child, Solid}
 use Rattle.cga_expand.specs.Children.{Member, placed_from}
 use Rattle.cga_expand.specs.Derivation.{derivation_of}
-use Rattle.cga_key.specs.Key.{chain_of_key, key_cmp}
-use Rattle.cga_key.specs.Children.{IsChildKey}
+use Rattle.cga_order.specs.Key.{chain_of_key, key_cmp}
+use Rattle.cga_order.specs.ChildKeys.{IsChildKey}
 
 abbrev pub Sites : Type 0
 Sites = List (Placed (Site Shape) ShapeFault Primitive)

@@ -3,8 +3,7 @@ ghost use Rattle.cga_expand.specs.Children.{placed_at};
 ghost use Rattle.cga_derive.specs.Run.{waiting_symbol};
 
 use cga_fraction::List;
-use cga_key::StampKey;
-use cga_order::Path;
+use cga_order::{Path, StampKey};
 use cga_shape::{Emitted, Kind, Placed, Shape};
 use cga_word::Name;
 use std::alloc::Global;

@@ -16,7 +16,7 @@ use crate::streak::{Streak, next_streak};
 use cga_check::Symbols;
 use cga_expand::{Expansions, expand};
 use cga_fraction::{List, NoMemory};
-use cga_key::{StampKey, child_key, child_path, root_key};
+use cga_order::{StampKey, child_key, child_path, root_key};
 use cga_shape::{Answers, Emitted, Kind, Outcome, Placed, Sources, TraceStep, root_shape};
 use cga_word::Name;
 use std::alloc::Global;

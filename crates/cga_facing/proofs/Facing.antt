@@ -5,7 +5,7 @@ use Rattle.cga_fraction.specs.Order.{rat_le, rat_lt}
 use Rattle.cga_word.specs.declared.primitive.Primitive.{Primitive}
 use Rattle.cga_word.specs.declared.primitive.Primitive.TheVariants as primitive
 use Rattle.cga_frame.specs.Axes.{IsFrame}
-use Rattle.cga_frame.specs.Scope.{Scope, place_of}
+use Rattle.cga_frame.specs.Scope.{Scope, world_point}
 use Rattle.cga_frame.specs.declared.point.Point.{Point}
 use Rattle.cga_solid.specs.Corners.{corners_of}
 use Rattle.cga_solid.specs.Faces.{edges_of, faces_of, four, ridge_along_x, ridge_along_z, three}
@@ -70,7 +70,7 @@ module _ (spots : List Spot) (corners vertices : List Point) (scope : Scope) (pl
   abbrev placed_from : Corner vertices → Corner corners
   placed_from v = let c = placed_at scope corners vertices v.is.0 v.at placed v.is.2 in corner v.number c.0 (v.is.0, v.is.1, c.1)
 
-  lies : (v : Corner vertices) → place_of scope.at scope.frame (placed_from v).at ≡ v.at
+  lies : (v : Corner vertices) → world_point scope.at scope.frame (placed_from v).at ≡ v.at
   lies v = (placed_at scope corners vertices v.is.0 v.at placed v.is.2).2
 
   seen_placed : IsFrame scope.frame → AreSpots spots corners → AreSeen spots vertices

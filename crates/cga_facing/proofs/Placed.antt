@@ -3,7 +3,7 @@ use Rattle.std.proofs.Common.{◌≡◌, ℕ, zero, suc, List, [], ◌∷◌, fa
 use Rattle.std.specs.Prelude.{slice_get}
 use Rattle.cga_fraction.proofs.Door.{None-not-Some, and_then-ok, err_if-ok, same_Ok, same_Some}
 use Rattle.cga_word.specs.declared.primitive.Primitive.{Primitive}
-use Rattle.cga_frame.specs.Scope.{Scope, place_of}
+use Rattle.cga_frame.specs.Scope.{Scope, world_point}
 use Rattle.cga_frame.specs.declared.point.Point.{Point}
 use Rattle.cga_solid.specs.Corners.{corners_of}
 use Rattle.cga_solid.specs.Solids.{all_placed, form_of, lacks_size, mesh_in, mesh_of, placed, vertices_of}
@@ -12,14 +12,15 @@ use Rattle.cga_solid.proofs.Door.{placed_is}
 
 -- each vertex is the corner at its place, placed
 at_first : (s : Scope) (c : Point) (cs vs : List Point) → all_placed s (c ∷ cs) ≡ Ok vs
-    → (v : Point) × (rest : List Point) × (place_of s.at s.frame c ≡ v) × (all_placed s cs ≡ Ok rest) × (vs ≡ v ∷ rest)
+    → (v : Point) × (rest : List Point)
+    × (world_point s.at s.frame c ≡ v) × (all_placed s cs ≡ Ok rest) × (vs ≡ v ∷ rest)
 at_first s c cs vs h =
     let a = and_then-ok (placed s c) _ vs h in
     let b = and_then-ok (all_placed s cs) _ vs a.2 in
     (a.0, b.0, placed_is s c a.0 a.1, b.1, sym (same_Ok (a.0 ∷ b.0) vs b.2))
 
 pub placed_at : (s : Scope) (cs vs : List Point) (k : ℕ) (v : Point) → all_placed s cs ≡ Ok vs → slice_get vs k ≡ Some v
-    → (c : Point) × (slice_get cs k ≡ Some c) × (place_of s.at s.frame c ≡ v)
+    → (c : Point) × (slice_get cs k ≡ Some c) × (world_point s.at s.frame c ≡ v)
 placed_at s [] vs k v h g =
     let e : [] ≡ vs = same_Ok [] vs h in
     None-not-Some v (subst (λ (l : List Point). slice_get l k ≡ Some v) (sym e) g)

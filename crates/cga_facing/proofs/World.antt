@@ -8,7 +8,7 @@ use Rattle.cga_word.specs.declared.axis.Axis.{Axis}
 use Rattle.cga_word.specs.declared.axis.Axis.TheVariants.{X, Y, Z}
 use Rattle.cga_frame.specs.Axes.{Frame, IsFrame, differ, parity}
 use Rattle.cga_frame.specs.Points.{coordinate}
-use Rattle.cga_frame.specs.Scope.{moved, place_of}
+use Rattle.cga_frame.specs.Scope.{moved, world_point}
 use Rattle.cga_frame.specs.declared.point.Point.{Point}
 use Rattle.cga_frame.specs.declared.signed.Signed.{Signed}
 use Rattle.cga_facing.specs.Facing.{side_of, way}
@@ -101,8 +101,8 @@ module _ (d : ℕ) (at : Point) (f : Frame) where
   way_in = turned_way f.x.axis f.y.axis f.z.axis f.x.against f.y.against f.z.against
 
   way_is : (a b : Point) (l m : Whole) → IsOver d a l → IsOver d b m
-      → IsWay d (way (place_of at f a) (place_of at f b)) (way_in l m)
-  unfolding place_of
+      → IsWay d (way (world_point at f a) (world_point at f b)) (way_in l m)
+  unfolding world_point
   way_is a b l m p q = record {
     x = entry f.x at.x a b l m p q;
     y = entry f.y at.y a b l m p q;
@@ -111,7 +111,8 @@ module _ (d : ℕ) (at : Point) (f : Frame) where
 
   pub placed_shows : IsFrame f → (a b c v : Point) (l m n o : Whole) → IsOver d a l → IsOver d b m → IsOver d c n
       → IsOver d v o
-      → Shows (side_of (place_of at f a) (place_of at f b) (place_of at f c) (place_of at f v)) (before product l m n o)
+      → Shows (side_of (world_point at f a) (world_point at f b) (world_point at f c) (world_point at f v))
+      (before product l m n o)
       (behind product l m n o) (d * (d * d))
   placed_shows is a b c v l m n o p q r s =
       shown_over _ _ _ (before product l m n o) (behind product l m n o) (d * (d * d))

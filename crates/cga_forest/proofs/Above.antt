@@ -6,7 +6,7 @@ use Rattle.std.proofs.lemmas.Bool.{eqb-true, or_cases, or_left, or_right, cases_
 use Rattle.std.proofs.lemmas.List.{get_or-take, length-take, take-append-le}
 use Rattle.std.proofs.Math.Seq.{take-length}
 use Rattle.cga_fraction.proofs.Door.{cases_Option, eq_or_ne, same_Some}
-use Rattle.cga_forest.specs.declared.entry.Entry.{Entry}
+use Rattle.cga_forest.specs.declared.slot_entry.SlotEntry.{SlotEntry}
 use Rattle.cga_forest.specs.Node.{IsBelow}
 use Rattle.cga_forest.specs.View.{Seen, seen}
 use Rattle.cga_forest.specs.Tree.{InPlace, above}
@@ -77,7 +77,7 @@ module _ (T : ℕ → Option Seen) (tree : IsTree T) (places : InPlace T) where
     ]
 
     -- a test of the paths tells whether a node is above another one
-    pub above_exact : (x c : ℕ) (a d : Entry) → T x ≡ Some (seen a) → T c ≡ Some (seen d)
+    pub above_exact : (x c : ℕ) (a d : SlotEntry) → T x ≡ Some (seen a) → T c ≡ Some (seen d)
         → (b : Bool) → IsTrue b ↔ IsOnPath a.node d.node → is_above T 257 x c ≡ b
     above_exact x c a d u t true h =
         let shallow : length d.node.shape.path ≤ 256 = tree.shallow c (seen d) t in

@@ -1,9 +1,9 @@
 -- The steps of a replacement together.
 use Rattle.std.proofs.Common.{◌≡◌, ◌≢◌, ℕ, ◌+◌, ◌-◌, ◌<◌, ◌≤◌, List, length, Bool, true, false, refl, ap, sym, ◌∙◌, subst}
 use Rattle.std.specs.Prelude.{Option, Some, None, is_some, slice_get}
-use Rattle.cga_forest.specs.declared.entry.Entry.{Entry}
+use Rattle.cga_forest.specs.declared.slot_entry.SlotEntry.{SlotEntry}
 use Rattle.cga_forest.specs.declared.node.Node.{Node}
-use Rattle.cga_forest.specs.declared.node.State.{State}
+use Rattle.cga_forest.specs.declared.node.NodeState.{NodeState}
 use Rattle.cga_forest.specs.Node.{fits, with_state}
 use Rattle.cga_forest.specs.View.{Seen, kids, flag_if, present_of, marked_of, hulls_of, marked_hulls_of, rewritten}
 use Rattle.cga_forest.proofs.Place.{some_kept}
@@ -17,12 +17,12 @@ use Rattle.cga_forest.proofs.Replace.{IsTree-replaced}
 use Rattle.cga_forest.proofs.Few.{few-replaced}
 use Rattle.cga_forest.proofs.Goes.{vacant, replaced, right_but, mark_kept, mark_hulls_kept}
 
-some_flag : (b : Bool) (s : Option Entry) → is_some (flag_if b s) ≡ is_some s
+some_flag : (b : Bool) (s : Option SlotEntry) → is_some (flag_if b s) ≡ is_some s
 some_flag false s = refl
 some_flag true None = refl
 some_flag true (Some e) = refl
 
-module _ (s0 s1 : ℕ → Option Entry) (id : ℕ) (e : Seen) (was : present_of (s0 id) ≡ Some e) (tree : IsTree (λ c. present_of (s0 c))) (gone : ℕ → Bool) (dropped : (c : ℕ) → s1 c ≡ flag_if (gone c) (s0 c)) where
+module _ (s0 s1 : ℕ → Option SlotEntry) (id : ℕ) (e : Seen) (was : present_of (s0 id) ≡ Some e) (tree : IsTree (λ c. present_of (s0 c))) (gone : ℕ → Bool) (dropped : (c : ℕ) → s1 c ≡ flag_if (gone c) (s0 c)) where
   pub dropped_kids : kids (s1 id) ≡ e.children
   dropped_kids = ap kids (dropped id) ∙ kids_flag (gone id) (s0 id) ∙ kids_present (s0 id) e was
 
@@ -35,7 +35,7 @@ module _ (s0 s1 : ℕ → Option Entry) (id : ℕ) (e : Seen) (was : present_of 
   pub kids_there : (i k : ℕ) → slice_get (kids (s1 id)) i ≡ Some k → is_some (s1 k) ≡ true
   kids_there i k g = let d = tree.down id i k e was (ap (λ xs. slice_get xs i) (sym dropped_kids) ∙ g) in there k d.0 d.1
 
-module _ (s0 s1 s2 s3 : ℕ → Option Entry) (id depth n : ℕ) (marking : Bool) (made : List ℕ) (news : List Node) (state : State) (e : Seen)
+module _ (s0 s1 s2 s3 : ℕ → Option SlotEntry) (id depth n : ℕ) (marking : Bool) (made : List ℕ) (news : List Node) (state : NodeState) (e : Seen)
     (was : present_of (s0 id) ≡ Some e) (low : 0 < length news → e.depth < 256) (deep : depth ≡ e.depth + 1) (fuel : n ≡ 256 - e.depth)
     (whole : IsWhole (λ c. present_of (s0 c)) (λ c. hulls_of (s0 c)))
     (dropped : (c : ℕ) → s1 c ≡ flag_if (goes (λ d. kids (s0 d)) n (λ k w. stay_of (s0 k) w) (kids (s0 id)) news (length (kids (s0 id))) c) (s0 c))

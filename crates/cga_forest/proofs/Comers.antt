@@ -2,7 +2,7 @@
 use Rattle.std.proofs.Common.{◌≡◌, ◌≢◌, ℕ, inl, inr, List, [], ◌∷◌, ◌++◌, length, Bool, true, false, refl, ap, sym, ◌∙◌}
 use Rattle.std.specs.Prelude.{Option, Some, None, is_some, slice_get, IsSome, if◌then◌else◌}
 use Rattle.cga_index.specs.Tree.{Member}
-use Rattle.cga_forest.specs.declared.entry.Entry.{Entry}
+use Rattle.cga_forest.specs.declared.slot_entry.SlotEntry.{SlotEntry}
 use Rattle.cga_forest.specs.declared.moved.Moved.{Moved}
 use Rattle.cga_forest.specs.declared.node.Node.{Node}
 use Rattle.cga_forest.specs.View.{Seen, kids, present_of, seen}
@@ -13,13 +13,13 @@ use Rattle.cga_forest.proofs.Place.{same_kids}
 use Rattle.cga_forest.proofs.Present.{present_some}
 use Rattle.cga_forest.proofs.WentCame.{coming_in}
 
-found_of : (c : ℕ) (o : Option Entry) (d : Seen) → present_of o ≡ Some d → found_at c o ≡ moved_of c d ∷ []
+found_of : (c : ℕ) (o : Option SlotEntry) (d : Seen) → present_of o ≡ Some d → found_at c o ≡ moved_of c d ∷ []
 found_of c o d h =
     let w = present_some o d h in
     ap (found_at c) w.1 ∙ ap (λ (x : Seen). moved_of c x ∷ []) w.2
 
 -- of slots that show the same nodes the same is listed
-found_like : (s t : ℕ → Option Entry) (xs : List ℕ)
+found_like : (s t : ℕ → Option SlotEntry) (xs : List ℕ)
     → ((c : ℕ) → Member xs c → (d : Seen) × (present_of (s c) ≡ Some d) × (present_of (t c) ≡ Some d))
     → found s xs ≡ found t xs
 found_like s t [] h = refl
@@ -28,7 +28,7 @@ found_like s t (x ∷ xs) h =
     let one : found_at x (s x) ≡ found_at x (t x) = found_of x (s x) w.0 w.1 ∙ sym (found_of x (t x) w.0 w.2) in
     ap (λ (l : List Moved). l ++ found s xs) one ∙ ap (λ (l : List Moved). found_at x (t x) ++ l) (found_like s t xs (λ c m. h c (inr m)))
 
-module _ (old now : ℕ → Option Entry) (id depth : ℕ) (marking : Bool) (news : List Node) (made : List ℕ)
+module _ (old now : ℕ → Option SlotEntry) (id depth : ℕ) (marking : Bool) (news : List Node) (made : List ℕ)
     (placed : IsPlaced old now id depth marking (kids (old id)) news made) (here : IsSome (old id)) where
   abbrev pub comers_now : List ℕ
   comers_now = coming (kids (now id)) made (length made)
@@ -45,6 +45,6 @@ module _ (old now : ℕ → Option Entry) (id depth : ℕ) (marking : Bool) (new
         )
       ]
 
-  pub found_after : (t : ℕ → Option Entry) → ((c : ℕ) → c ≢ id → present_of (t c) ≡ present_of (now c))
+  pub found_after : (t : ℕ → Option SlotEntry) → ((c : ℕ) → c ≢ id → present_of (t c) ≡ present_of (now c))
       → found now comers_now ≡ found t comers_now
   found_after t like = found_like now t comers_now (λ c m. let k = comer c m in (k.1.0, k.1.1, like c k.0 ∙ k.1.1))

@@ -8,7 +8,7 @@ use Rattle.cga_frame.proofs.Door.{touches_up}
 use Rattle.std.proofs.lemmas.Bool.{and_parts as both, cases_Bool as bool_cases}
 use Rattle.cga_index.specs.Tree.{IsFarRun, IsQuietRun}
 use Rattle.cga_kept_hulls.specs.declared.blocks.Blocks.{Blocks}
-use Rattle.cga_forest.specs.declared.entry.Entry.{Entry}
+use Rattle.cga_forest.specs.declared.slot_entry.SlotEntry.{SlotEntry}
 use Rattle.cga_kept_hulls.specs.declared.hulls.Hulls.{Hulls}
 use Rattle.cga_kept_hulls.specs.Blocks.{Level, IsHeld, IsIn, StaysHeld, block_asks, block_holds, block_touches, opt_touches}
 use Rattle.cga_forest.specs.Blocks.{AreCovered, AreCoveredBut, IsCovered, IsWithBlocks}
@@ -167,9 +167,9 @@ pub covered_none : (xs : Blocks) (roots : Named) (H : ℕ → Option Hulls) (cha
 covered_none xs roots H changed a none p c h at e = a p c h (λ q. absurd (none p c q at)) at e
 
 -- the slot of a root, and its name
-pub root_at : (s : ℕ → Option Entry) (roots : Named) → HasRoots (λ c. present_of (s c)) roots → (root p : ℕ)
+pub root_at : (s : ℕ → Option SlotEntry) (roots : Named) → HasRoots (λ c. present_of (s c)) roots → (root p : ℕ)
     → slice_get (ids roots) p ≡ Some root
-    → (n : List ℕ) × (slice_get roots p ≡ Some (n, root)) × ((x : Entry) → s root ≡ Some x → x.node.shape.lot ≡ n)
+    → (n : List ℕ) × (slice_get roots p ≡ Some (n, root)) × ((x : SlotEntry) → s root ≡ Some x → x.node.shape.lot ≡ n)
     × (s root ≡ None → ⊥)
 root_at s roots r root p at =
     let m = ids_at roots p root at in
@@ -177,20 +177,20 @@ root_at s roots r root p at =
     let w = present_some (s root) d.0 d.1 in (
       m.0,
       m.1,
-      (λ x e. let z : Some x ≡ Some w.0 = sym e ∙ w.1 in let y : x ≡ w.0 = (cc) in ap (λ (k : Entry). k.node.shape.lot) y ∙ ap (λ (k : Seen). k.node.shape.lot) w.2 ∙ d.3),
+      (λ x e. let z : Some x ≡ Some w.0 = sym e ∙ w.1 in let y : x ≡ w.0 = (cc) in ap (λ (k : SlotEntry). k.node.shape.lot) y ∙ ap (λ (k : Seen). k.node.shape.lot) w.2 ∙ d.3),
       (λ e. let z : None ≡ Some w.0 = sym e ∙ w.1 in absurd (cc)),
     )
 
-pub place_is : (s : ℕ → Option Entry) (roots : Named) → HasRoots (λ c. present_of (s c)) roots
-    → (root place id p : ℕ) (x : Entry) (name : List ℕ) → s root ≡ Some x → name ≡ x.node.shape.lot
+pub place_is : (s : ℕ → Option SlotEntry) (roots : Named) → HasRoots (λ c. present_of (s c)) roots
+    → (root place id p : ℕ) (x : SlotEntry) (name : List ℕ) → s root ≡ Some x → name ≡ x.node.shape.lot
     → slice_get roots place ≡ Some (name, id) → slice_get (ids roots) p ≡ Some root → place ≡ p
 place_is s roots r root place id p x name here named there at =
     let w = root_at s roots r root p at in
     let same : name ≡ w.0 = named ∙ w.2 x here in
     place_once roots place p w.0 id root r.apart (there ∙ ap (λ (n : List ℕ). Some (n, id)) same) w.1
 
-pub place_there : (s : ℕ → Option Entry) (roots : Named) → HasRoots (λ c. present_of (s c)) roots
-    → (root p : ℕ) (x : Entry) (name : List ℕ) → s root ≡ Some x → name ≡ x.node.shape.lot
+pub place_there : (s : ℕ → Option SlotEntry) (roots : Named) → HasRoots (λ c. present_of (s c)) roots
+    → (root p : ℕ) (x : SlotEntry) (name : List ℕ) → s root ≡ Some x → name ≡ x.node.shape.lot
     → None ≡ id_under roots name → slice_get (ids roots) p ≡ Some root → ⊥
 place_there s roots r root p x name here named none at =
     let w = root_at s roots r root p at in

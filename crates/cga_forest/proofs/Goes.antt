@@ -1,9 +1,9 @@
 -- The nodes that go with replaced children.
 use Rattle.std.proofs.Common.{◌≡◌, ◌≢◌, ℕ, ◌+◌, ◌-◌, ◌<◌, List, [], length, Bool, true, false, ◌⊎◌, inl, inr, refl, ap, sym, ◌∙◌, arith}
 use Rattle.std.specs.Prelude.{Option, Some, None, not, slice_get, if◌then◌else◌}
-use Rattle.cga_forest.specs.declared.entry.Entry.{Entry}
+use Rattle.cga_forest.specs.declared.slot_entry.SlotEntry.{SlotEntry}
 use Rattle.cga_forest.specs.declared.node.Node.{Node}
-use Rattle.cga_forest.specs.declared.node.State.{State}
+use Rattle.cga_forest.specs.declared.node.NodeState.{NodeState}
 use Rattle.cga_forest.specs.Node.{fits, with_state}
 use Rattle.cga_kept_hulls.specs.declared.hulls.Hulls.{Hulls}
 use Rattle.cga_kept_hulls.specs.Hull.{over}
@@ -25,7 +25,7 @@ use Rattle.cga_forest.proofs.Replace.{old_or_new}
 pub use Rattle.cga_fraction.proofs.Door.{lt-length_from_slice_get as get_within}
 use Rattle.cga_forest.proofs.GoesBelow.{goes_find, goes_here, under_deep, same_seen, stay_seen, not_true, not_false, asked_some, get_there}
 
-module _ (s0 s1 s2 s3 : ℕ → Option Entry) (id depth n : ℕ) (marking : Bool) (made : List ℕ) (news : List Node) (state : State) (e : Seen)
+module _ (s0 s1 s2 s3 : ℕ → Option SlotEntry) (id depth n : ℕ) (marking : Bool) (made : List ℕ) (news : List Node) (state : NodeState) (e : Seen)
     (was : present_of (s0 id) ≡ Some e) (low : 0 < length news → e.depth < 256) (deep : depth ≡ e.depth + 1) (fuel : n ≡ 256 - e.depth)
     (tree : IsTree (λ c. present_of (s0 c)))
     (gone : ℕ → Bool) (goneis : (c : ℕ) → gone c ≡ goes (λ d. kids (s0 d)) n (λ k w. stay_of (s0 k) w) e.children news (length e.children) c)
@@ -41,22 +41,22 @@ module _ (s0 s1 s2 s3 : ℕ → Option Entry) (id depth n : ℕ) (marking : Bool
   K_same : (c : ℕ) (d : Seen) → present_of (s0 c) ≡ Some d → kids (s0 c) ≡ d.children
   K_same c d t = kids_present (s0 c) d t
 
-  flag_some : (b : Bool) (s : Option Entry) (x : Entry) → s ≡ Some x → (y : Entry) × (flag_if b s ≡ Some y)
+  flag_some : (b : Bool) (s : Option SlotEntry) (x : SlotEntry) → s ≡ Some x → (y : SlotEntry) × (flag_if b s ≡ Some y)
   flag_some false s x h = (x, h)
   flag_some true s x h = (record x { aside = true; touched = true }, ap (flag_if true) h)
 
-  flag_none : (b : Bool) (s : Option Entry) → s ≡ None → flag_if b s ≡ None
+  flag_none : (b : Bool) (s : Option SlotEntry) → s ≡ None → flag_if b s ≡ None
   flag_none false s h = h
   flag_none true s h = ap (flag_if true) h
 
   -- an old slot is still there, flagged where it goes
-  old_slot : (c : ℕ) (x : Entry) → s0 c ≡ Some x → s2 c ≡ flag_if (gone c) (s0 c)
+  old_slot : (c : ℕ) (x : SlotEntry) → s0 c ≡ Some x → s2 c ≡ flag_if (gone c) (s0 c)
   old_slot c x h = let y = flag_some (gone c) (s0 c) x h in placed.rest c y.0 (dropped c ∙ y.1) ∙ sym y.1
 
   old_node : (c : ℕ) (d : Seen) → present_of (s0 c) ≡ Some d → s2 c ≡ flag_if (gone c) (s0 c)
   old_node c d t = let w = present_some (s0 c) d t in old_slot c w.0 w.1
 
-  flagged_none : (b : Bool) (s : Option Entry) → flag_if b s ≡ None → s ≡ None
+  flagged_none : (b : Bool) (s : Option SlotEntry) → flag_if b s ≡ None → s ≡ None
   flagged_none false s h = h
   flagged_none true None h = refl
   flagged_none true (Some x) h = absurd (cc)
@@ -148,11 +148,11 @@ module _ (s0 s1 s2 s3 : ℕ → Option Entry) (id depth n : ℕ) (marking : Bool
   if_none true o h = refl
   if_none false o h = h
 
-  rest_of : (c : ℕ) (x : Entry) → c ≢ id → s0 c ≡ Some x
+  rest_of : (c : ℕ) (x : SlotEntry) → c ≢ id → s0 c ≡ Some x
       → present_of (s3 c) ≡ (if gone c then None else present_of (s0 c))
   rest_of c x ne h = ap present_of (others c ne ∙ old_slot c x h) ∙ present_flag (gone c) (s0 c)
 
-  came_none : (c : ℕ) (o : Option Entry) → s0 c ≡ o → present_of o ≡ None
+  came_none : (c : ℕ) (o : Option SlotEntry) → s0 c ≡ o → present_of o ≡ None
       → (present_of (s3 c) ≡ None) ⊎ ((i : ℕ) × (slice_get made i ≡ Some c))
   came_none c None q h = elim (placed.came c (dropped c ∙ flag_none (gone c) (s0 c) q)) [
     | inl y ↦ inl (ap present_of (others c (not_id c (ap present_of q)) ∙ y))
@@ -175,7 +175,7 @@ module _ (s0 s1 s2 s3 : ℕ → Option Entry) (id depth n : ℕ) (marking : Bool
       ]
 
   -- a node that came stands where no entry was
-  vacant_at : (c : ℕ) (o : Option Entry) (d : Seen) → s0 c ≡ o → present_of o ≡ None → present_of (s3 c) ≡ Some d
+  vacant_at : (c : ℕ) (o : Option SlotEntry) (d : Seen) → s0 c ≡ o → present_of o ≡ None → present_of (s3 c) ≡ Some d
       → s0 c ≡ None
   vacant_at c None d q h t = q
   vacant_at c (Some x) d q h t = let z : None ≡ Some d = sym (if_none (gone c) (present_of (s0 c)) (ap present_of q ∙ h)) ∙ sym (rest_of c x (not_id c (ap present_of q ∙ h)) q) ∙ t in absurd (cc)
@@ -231,7 +231,7 @@ module _ (s0 s1 s2 s3 : ℕ → Option Entry) (id depth n : ℕ) (marking : Bool
       | inr ne ↦ ap hulls_of (others c ne ∙ old_node c d t) ∙ hulls_flag (gone c) (s0 c)
     ]
 
-    leaf_right : (c : ℕ) (d : Seen) (x : Entry) (w : Node) → hulls_of (s3 c) ≡ Some (hulls_known x.node x.hulls)
+    leaf_right : (c : ℕ) (d : Seen) (x : SlotEntry) (w : Node) → hulls_of (s3 c) ≡ Some (hulls_known x.node x.hulls)
         → hulls_known x.node x.hulls ≡ own_hulls w → d.node ≡ w → d.children ≡ [] → IsRight (λ k. hulls_of (s3 k)) c d
     leaf_right c d x w h o dn leaf = right_exact (λ k. hulls_of (s3 k)) c d (h ∙ ap (λ h. Some h) (o ∙ ap own_hulls (sym dn) ∙ sym (over_zero (λ k. hulls_of (s3 k)) (own_hulls d.node) d.children) ∙ ap (λ xs. over (λ k. hulls_of (s3 k)) (own_hulls d.node) d.children (length xs)) (sym leaf)))
 
@@ -268,8 +268,9 @@ module _ (s0 s1 s2 s3 : ℕ → Option Entry) (id depth n : ℕ) (marking : Bool
       | inr v ↦ v.1
     ]
 
-    placed_mark : (f : Option Entry → Option Seen) → ((b : Bool) (s : Option Entry) → f (flag_if b s) ≡ f s)
-        → f None ≡ None → ((x : Entry) → x.came ≡ true → f (Some x) ≡ None) → (c : ℕ) (o : Option Entry) → s0 c ≡ o
+    placed_mark : (f : Option SlotEntry → Option Seen) → ((b : Bool) (s : Option SlotEntry) → f (flag_if b s) ≡ f s)
+        → f None ≡ None → ((x : SlotEntry) → x.came ≡ true → f (Some x) ≡ None) → (c : ℕ) (o : Option SlotEntry)
+        → s0 c ≡ o
         → f (s2 c) ≡ f (s0 c)
     placed_mark f flag none new c (Some x) q = ap f (old_slot c x q) ∙ flag (gone c) (s0 c)
     placed_mark f flag none new c None q = elim (placed.came c (dropped c ∙ flag_none (gone c) (s0 c) q)) [
@@ -277,8 +278,9 @@ module _ (s0 s1 s2 s3 : ℕ → Option Entry) (id depth n : ℕ) (marking : Bool
       | inr w ↦ (let p = placed.each w.0 c w.1 in let v = came_apart w.0 c p.0 q p.2 in ap f v.here ∙ new v.entry (v.comes ∙ on) ∙ sym (ap f q ∙ none))
     ]
 
-    placed_hulls : (f : Option Entry → Option Hulls) → ((b : Bool) (s : Option Entry) → f (flag_if b s) ≡ f s)
-        → f None ≡ None → ((x : Entry) → x.came ≡ true → f (Some x) ≡ None) → (c : ℕ) (o : Option Entry) → s0 c ≡ o
+    placed_hulls : (f : Option SlotEntry → Option Hulls) → ((b : Bool) (s : Option SlotEntry) → f (flag_if b s) ≡ f s)
+        → f None ≡ None → ((x : SlotEntry) → x.came ≡ true → f (Some x) ≡ None) → (c : ℕ) (o : Option SlotEntry)
+        → s0 c ≡ o
         → f (s2 c) ≡ f (s0 c)
     placed_hulls f flag none new c (Some x) q = ap f (old_slot c x q) ∙ flag (gone c) (s0 c)
     placed_hulls f flag none new c None q = elim (placed.came c (dropped c ∙ flag_none (gone c) (s0 c) q)) [

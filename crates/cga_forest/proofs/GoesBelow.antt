@@ -2,7 +2,7 @@
 use Rattle.std.proofs.Common.{◌≡◌, ℕ, zero, suc, ◌≤◌, ◌<◌, List, [], ◌∷◌, length, Bool, true, false, ◌||◌, inl, inr, refl, ap, sym, ◌∙◌, arith}
 use Rattle.std.proofs.lemmas.Option.{slice_get_within}
 use Rattle.std.specs.Prelude.{Option, Some, None, not, slice_get, if◌then◌else◌}
-use Rattle.cga_forest.specs.declared.entry.Entry.{Entry}
+use Rattle.cga_forest.specs.declared.slot_entry.SlotEntry.{SlotEntry}
 use Rattle.cga_forest.specs.declared.node.Node.{Node}
 use Rattle.cga_forest.specs.Node.{fits}
 use Rattle.cga_forest.specs.View.{Seen, present_of}
@@ -68,7 +68,7 @@ under_deep K T tree same (suc n) id c e t h = elim (under_cases K n id c h) [
 pub same_seen : (T : ℕ → Option Seen) (a b : ℕ) (d e : Seen) → T a ≡ Some d → T b ≡ Some e → a ≡ b → d ≡ e
 same_seen T a b d e t u q = let z : Some d ≡ Some e = sym t ∙ ap T q ∙ u in (cc)
 
-pub stay_seen : (s : Option Entry) (d : Seen) (w : Option Node) → present_of s ≡ Some d
+pub stay_seen : (s : Option SlotEntry) (d : Seen) (w : Option Node) → present_of s ≡ Some d
     → stay_of s w ≡ fits_at fits d.node w
 stay_seen s d w h = let r = present_some s d h in ap (λ o. stay_of o w) r.1 ∙ ap (λ (x : Seen). fits_at fits x.node w) r.2
 
@@ -78,7 +78,7 @@ not_true b h = ap not (sym h)
 pub not_false : (b : Bool) → b ≡ false → true ≡ not b
 not_false b h = ap not (sym h)
 
-pub asked_some : (s : Option Entry) (w : Option Node) → stay_of s w ≡ true → (x : Node) × (w ≡ Some x)
+pub asked_some : (s : Option SlotEntry) (w : Option Node) → stay_of s w ≡ true → (x : Node) × (w ≡ Some x)
 asked_some None w h = absurd (cc)
 asked_some (Some e) None h = absurd (cc)
 asked_some (Some e) (Some x) h = (x, refl)

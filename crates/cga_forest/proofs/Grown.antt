@@ -12,9 +12,9 @@ use Rattle.cga_shape.specs.declared.shape.Shape.{Shape}
 use Rattle.cga_shape.specs.declared.emitted.Emitted.{Emitted}
 use Rattle.cga_shape.specs.declared.emitted.Emitted.TheVariants.{Child, Solid}
 use Rattle.cga_forest.specs.declared.node.Node.{Node}
-use Rattle.cga_forest.specs.declared.node.State.{State}
+use Rattle.cga_forest.specs.declared.node.NodeState.{NodeState}
 use Rattle.cga_forest.specs.Node.{IsBelow, with_state}
-use Rattle.cga_forest.specs.declared.entry.Entry.{Entry}
+use Rattle.cga_forest.specs.declared.slot_entry.SlotEntry.{SlotEntry}
 use Rattle.cga_forest.specs.View.{Seen, present_of}
 use Rattle.cga_forest.proofs.Present.{present_some}
 use Rattle.cga_forest.specs.Tree.{IsInner, InPlace}
@@ -40,12 +40,12 @@ module _ (g : Grammar) (n : Node) where
   children_long [] k = refl
   children_long (e ∷ es) k = ap suc (children_long es (k + 1))
 
-  child_below : (s : State) → is_instance s.kind ≡ false → (k : ℕ) (e : Emitted)
+  child_below : (s : NodeState) → is_instance s.kind ≡ false → (k : ℕ) (e : Emitted)
       → IsBelow (with_state s n) k (child_node g n k e)
   child_below s is k (Child symbol args scope seed) = record { inner = is; lot = refl; path = refl; line = refl }
   child_below s is k (Solid primitive scope seed) = record { inner = is; lot = refl; path = refl; line = refl }
 
-  pub children_below : (s : State) → is_instance s.kind ≡ false → (es : List Emitted) (k i : ℕ) (w : Node)
+  pub children_below : (s : NodeState) → is_instance s.kind ≡ false → (es : List Emitted) (k i : ℕ) (w : Node)
       → slice_get (children_from g n k es) i ≡ Some w → IsBelow (with_state s n) (k + i) w
   children_below s is [] k i w h = let x : None ≡ Some w = h in absurd (cc)
   children_below s is (e ∷ es) k zero w h =
@@ -90,12 +90,13 @@ root_named lot s h is = let w = ok_is (root_scope lot) h in named_in lot w.0 s w
 
 -- ---- the node of an entry that is there
 
-pub entry_node : (s : Option Entry) (x : Entry) (e : Seen) → s ≡ Some x → present_of s ≡ Some e → e.node ≡ x.node
+pub entry_node : (s : Option SlotEntry) (x : SlotEntry) (e : Seen) → s ≡ Some x → present_of s ≡ Some e
+    → e.node ≡ x.node
 entry_node s x e h t =
     let y = present_some s e t in
     let z : Some x ≡ Some y.0 = sym h ∙ y.1 in
     let q : x ≡ y.0 = (cc) in
-    ap (λ (d : Seen). d.node) (sym y.2) ∙ ap (λ (k : Entry). k.node) (sym q)
+    ap (λ (d : Seen). d.node) (sym y.2) ∙ ap (λ (k : SlotEntry). k.node) (sym q)
 
 -- ---- a node's depth is the length of its path
 

@@ -1,10 +1,10 @@
 -- Roots keep their hulls while those of others change.
 use Rattle.std.proofs.Common.{◌≡◌, ◌≢◌, inl, inr, ℕ, List, Bool, true, false, refl, ap, sym, ◌∙◌}
 use Rattle.std.specs.Prelude.{Option, Some, None, if◌then◌else◌}
-use Rattle.cga_forest.specs.declared.entry.Entry.{Entry}
+use Rattle.cga_forest.specs.declared.slot_entry.SlotEntry.{SlotEntry}
 use Rattle.cga_kept_hulls.specs.declared.hulls.Hulls.{Hulls}
 use Rattle.cga_forest.specs.declared.node.Node.{Node}
-use Rattle.cga_forest.specs.declared.node.State.{State}
+use Rattle.cga_forest.specs.declared.node.NodeState.{NodeState}
 use Rattle.cga_forest.specs.Tree.{IsPlaced, above, parent_of}
 use Rattle.cga_forest.specs.View.{Seen, flag_if, hulls_of, present_of, rewritten, settled}
 use Rattle.cga_fraction.proofs.Door.{eq_or_ne as nat_cases}
@@ -13,7 +13,7 @@ use Rattle.cga_forest.proofs.Marks.{hulls_flag, present_flag}
 use Rattle.cga_forest.proofs.Present.{parent_present, present_some}
 
 -- what is left once a slot is settled has its hulls
-pub settled_hulls : (s : Option Entry) (h : Hulls) → hulls_of (settled s) ≡ Some h → hulls_of s ≡ Some h
+pub settled_hulls : (s : Option SlotEntry) (h : Hulls) → hulls_of (settled s) ≡ Some h → hulls_of s ≡ Some h
 settled_hulls None h e = e
 settled_hulls (Some x) h e = elim (bool_cases x.aside) [
   | inl y ↦ (let z : None ≡ Some h = ap (λ b. hulls_of (if b then None else Some (record x { came = false; touched = false; former = None; former_hulls = None }))) (sym y) ∙ e in absurd (cc))
@@ -22,12 +22,12 @@ settled_hulls (Some x) h e = elim (bool_cases x.aside) [
 
 -- ---- on the way up from a node
 
-module _ (s t : ℕ → Option Entry) (id : ℕ) (others : (c : ℕ) → c ≢ id → t c ≡ s c) where
+module _ (s t : ℕ → Option SlotEntry) (id : ℕ) (others : (c : ℕ) → c ≢ id → t c ≡ s c) where
   pub written_here : (c : ℕ) → Some id ≢ Some c → hulls_of (t c) ≡ hulls_of (s c)
   written_here c n = ap hulls_of (others c (λ q. n (ap (λ k. Some k) (sym q))))
 
   -- the node isn't a root, and the way goes on from its parent
-  pub written_above : (u : ℕ → Option Entry) (p : ℕ) (e : Seen) (changed : Option ℕ) → present_of (s id) ≡ Some e
+  pub written_above : (u : ℕ → Option SlotEntry) (p : ℕ) (e : Seen) (changed : Option ℕ) → present_of (s id) ≡ Some e
       → present_of (t id) ≡ present_of (s id) → parent_of (t id) ≡ Some p
       → ((c : ℕ) → above (present_of (t c)) ≡ None → changed ≢ Some c → hulls_of (u c) ≡ hulls_of (t c))
       → (c : ℕ) → above (present_of (s c)) ≡ None → changed ≢ Some c → hulls_of (u c) ≡ hulls_of (s c)
@@ -41,17 +41,18 @@ above_flag : (b : Bool) (o : Option Seen) → above o ≡ None → above (if b t
 above_flag true o top = refl
 above_flag false o top = top
 
-above_rewritten : (state : State) (children : List ℕ) (o : Option Seen) → above o ≡ None
+above_rewritten : (state : NodeState) (children : List ℕ) (o : Option Seen) → above o ≡ None
     → above (rewritten state children o) ≡ None
 above_rewritten state children None top = refl
 above_rewritten state children (Some d) top = top
 
-flag_some : (b : Bool) (s : Option Entry) (d : Seen) → present_of s ≡ Some d → (x : Entry) × (flag_if b s ≡ Some x)
+flag_some : (b : Bool) (s : Option SlotEntry) (d : Seen) → present_of s ≡ Some d
+    → (x : SlotEntry) × (flag_if b s ≡ Some x)
 flag_some false s d h = let w = present_some s d h in (w.0, w.1)
 flag_some true None d h = absurd (cc)
 flag_some true (Some e) d h = (record e { aside = true; touched = true }, refl)
 
-module _ (old dropped placed written : ℕ → Option Entry) (id depth : ℕ) (marking : Bool) (olds : List ℕ) (news : List Node) (made : List ℕ) (state : State) (gone : ℕ → Bool)
+module _ (old dropped placed written : ℕ → Option SlotEntry) (id depth : ℕ) (marking : Bool) (olds : List ℕ) (news : List Node) (made : List ℕ) (state : NodeState) (gone : ℕ → Bool)
     (drops : (c : ℕ) → dropped c ≡ flag_if (gone c) (old c)) (places : IsPlaced dropped placed id depth marking olds news made)
     (others : (c : ℕ) → c ≢ id → written c ≡ placed c) (present : present_of (written id) ≡ rewritten state made (present_of (placed id))) (hulls : hulls_of (written id) ≡ hulls_of (placed id)) where
   placed_same : (c : ℕ) (d : Seen) → present_of (old c) ≡ Some d → placed c ≡ dropped c

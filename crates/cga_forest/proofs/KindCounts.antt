@@ -9,7 +9,7 @@ use Rattle.cga_order.specs.declared.placed.Kind.{Kind}
 use Rattle.cga_order.specs.declared.placed.Kind.TheVariants.{Waiting, Done, Faulted, Instance}
 use Rattle.cga_shape.specs.declared.shape_fault.ShapeFault.{ShapeFault}
 use Rattle.cga_word.specs.declared.primitive.Primitive.{Primitive}
-use Rattle.cga_forest.specs.declared.entry.Entry.{Entry}
+use Rattle.cga_forest.specs.declared.slot_entry.SlotEntry.{SlotEntry}
 use Rattle.cga_forest.specs.Count.{entry_counts, is_faulted, is_shown_as, kind_counts, tally}
 
 first_kind : (k : Kind ShapeFault Primitive) → is_first (kind_counts k) ≡ is_instance k
@@ -30,17 +30,17 @@ module _ (number : Sort → Bool) (none : number Other ≡ false) (test : Kind S
   by_flag true k = none
   by_flag false k = same k
 
-  counted : (s : Option Entry) → number (sort_of entry_counts s) ≡ is_shown_as test s
+  counted : (s : Option SlotEntry) → number (sort_of entry_counts s) ≡ is_shown_as test s
   counted None = none
   counted (Some e) = by_flag e.aside e.node.kind
 
-  all_counted : (slots : List (Option Entry)) → sorted number entry_counts slots ≡ tally (is_shown_as test) slots
-  all_counted slots = ap (λ (p : Option Entry → Bool). tally p slots) (λ i s. counted s i)
+  all_counted : (slots : List (Option SlotEntry)) → sorted number entry_counts slots ≡ tally (is_shown_as test) slots
+  all_counted slots = ap (λ (p : Option SlotEntry → Bool). tally p slots) (λ i s. counted s i)
 
-pub first_are : (slots : List (Option Entry))
+pub first_are : (slots : List (Option SlotEntry))
     → sorted is_first entry_counts slots ≡ tally (is_shown_as is_instance) slots
 first_are = all_counted is_first refl is_instance first_kind
 
-pub second_are : (slots : List (Option Entry))
+pub second_are : (slots : List (Option SlotEntry))
     → sorted is_second entry_counts slots ≡ tally (is_shown_as is_faulted) slots
 second_are = all_counted is_second refl is_faulted second_kind

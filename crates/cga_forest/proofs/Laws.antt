@@ -14,7 +14,7 @@ use Rattle.cga_forest.specs.declared.node.Node.{Node}
 use Rattle.cga_forest.specs.Node.{bounds}
 use Rattle.cga_kept_hulls.specs.Hull.{over}
 use Rattle.cga_forest.specs.Hull.{own_hulls}
-use Rattle.cga_forest.specs.declared.entry.Entry.{Entry}
+use Rattle.cga_forest.specs.declared.slot_entry.SlotEntry.{SlotEntry}
 use Rattle.cga_forest.specs.declared.former.Former.{Former}
 use Rattle.cga_forest.specs.View.{Seen, kids, marked_of, restored, seen}
 use Rattle.cga_forest.proofs.Marks.{marked_plain}
@@ -183,12 +183,12 @@ module _ (v w : ForestView) (same : v ≡ w) (f : IsForest v) (n k : ℕ) (id : 
   pub slot_inside : is_some (slot_at v k) ≡ true
   slot_inside = let x = present_some (slot_at v k) node_there.0 node_there.1 in ap is_some x.1
 
-  pub node_inside : (x : Entry) → slot_at v k ≡ Some x → node_at w n ≡ Some (seen x)
+  pub node_inside : (x : SlotEntry) → slot_at v k ≡ Some x → node_at w n ≡ Some (seen x)
   node_inside x h =
       let y = present_some (slot_at v k) node_there.0 node_there.1 in
       let z : Some x ≡ Some y.0 = sym h ∙ y.1 in
       let q : x ≡ y.0 = (cc) in
-      sym node_same ∙ node_there.1 ∙ ap (λ d. Some d) (sym y.2) ∙ ap (λ (e : Entry). Some (seen e)) (sym q)
+      sym node_same ∙ node_there.1 ∙ ap (λ d. Some d) (sym y.2) ∙ ap (λ (e : SlotEntry). Some (seen e)) (sym q)
 
   pub kids_inside : kids (slot_at v k) ≡ children_at w n
   kids_inside = kids_present (slot_at v k) node_there.0 node_there.1 ∙ ap children_of (sym node_there.1 ∙ node_same)
@@ -203,7 +203,7 @@ in_inside v w same f n h = subst (λ (x : ForestView). InTree (forest_tree x) n)
 -- ---- in which only those nodes ask that were there at the mark
 
 -- a node has the parent that it had at the mark
-marked_parent : (s : Option Entry) (b : Seen) → marked_of s ≡ Some b → b.parent ≡ parent_of s
+marked_parent : (s : Option SlotEntry) (b : Seen) → marked_of s ≡ Some b → b.parent ≡ parent_of s
 marked_parent None b m = let z : None ≡ Some b = m in absurd (cc)
 marked_parent (Some x) b m = by_books x.came x.former m
   where

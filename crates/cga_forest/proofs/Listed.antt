@@ -6,7 +6,7 @@ use Rattle.std.proofs.lemmas.List.{append_assoc, append-nil, take_all}
 use Rattle.std.proofs.lemmas.Option.{slice_get_cases}
 use Rattle.cga_index.specs.Tree.{Member, Apart}
 use Rattle.cga_order.specs.World.{Among}
-use Rattle.cga_forest.specs.declared.entry.Entry.{Entry}
+use Rattle.cga_forest.specs.declared.slot_entry.SlotEntry.{SlotEntry}
 use Rattle.cga_forest.specs.declared.moved.Moved.{Moved}
 use Rattle.cga_forest.specs.declared.node.Node.{Node}
 use Rattle.cga_forest.specs.Moved.{moved_node, ids_of}
@@ -34,7 +34,7 @@ flat_next f xs i x h = ap (flat_map f) (take_next xs i x h) ∙ flat_append f (t
 
 -- ---- what is found
 
-module _ (s : ℕ → Option Entry) where
+module _ (s : ℕ → Option SlotEntry) where
   pub found_join : (a b c : List Moved) (xs ys : List ℕ) → b ≡ a ++ found s xs → c ≡ b ++ found s ys
       → c ≡ a ++ found s (xs ++ ys)
   found_join a b c xs ys p q =
@@ -48,9 +48,9 @@ module _ (s : ℕ → Option Entry) where
   found_none a xs e = sym (ap (λ l. a ++ found s l) e ∙ append-nil a)
 
   pub found_in : (m : Moved) (xs : List ℕ) → Among m (found s xs)
-      → (c : ℕ) × (e : Entry) × Member xs c × (s c ≡ Some e) × (m ≡ moved_node c e.node)
+      → (c : ℕ) × (e : SlotEntry) × Member xs c × (s c ≡ Some e) × (m ≡ moved_node c e.node)
   found_in m [] h = absurd h
-  found_in m (x ∷ xs) h = (elim (s x) as (λ o. s x ≡ o → Among m (found_at x o ++ found s xs) → (c : ℕ) × (e : Entry) × Member (x ∷ xs) c × (s c ≡ Some e) × (m ≡ moved_node c e.node)) [
+  found_in m (x ∷ xs) h = (elim (s x) as (λ o. s x ≡ o → Among m (found_at x o ++ found s xs) → (c : ℕ) × (e : SlotEntry) × Member (x ∷ xs) c × (s c ≡ Some e) × (m ≡ moved_node c e.node)) [
     | None ↦ (λ q j. let r = found_in m xs j in (r.0, r.1, inr r.2, r.3, r.4))
     | Some e ↦ (λ q j. elim j [ inl y ↦ (x, e, inl refl, q, sym y) | inr n ↦ (let r = found_in m xs n in (r.0, r.1, inr r.2, r.3, r.4)) ])
   ]) refl h
@@ -59,11 +59,11 @@ module _ (s : ℕ → Option Entry) where
   among_right m [] ys h = h
   among_right m (x ∷ xs) ys h = inr (among_right m xs ys h)
 
-  pub found_has : (xs : List ℕ) (c : ℕ) (e : Entry) → Member xs c → s c ≡ Some e
+  pub found_has : (xs : List ℕ) (c : ℕ) (e : SlotEntry) → Member xs c → s c ≡ Some e
       → Among (moved_node c e.node) (found s xs)
   found_has [] c e h q = absurd h
   found_has (x ∷ xs) c e h q = elim h [
-    | inl y ↦ subst (λ (o : Option Entry). Among (moved_node c e.node) (found_at x o ++ found s xs)) (sym q ∙ ap s (sym y)) (inl (ap (λ k. moved_node k e.node) y))
+    | inl y ↦ subst (λ (o : Option SlotEntry). Among (moved_node c e.node) (found_at x o ++ found s xs)) (sym q ∙ ap s (sym y)) (inl (ap (λ k. moved_node k e.node) y))
     | inr n ↦ among_right (moved_node c e.node) (found_at x (s x)) (found s xs) (found_has xs c e n q)
   ]
 

@@ -1,7 +1,7 @@
 -- A slot's present and marked node, under each change.
 use Rattle.std.proofs.Common.{◌≡◌, ◌≢◌, ℕ, List, [], ◌∷◌, ◌++◌, length, Bool, true, false, refl, ap, sym, subst, ◌∙◌, rules, inl, inr, arith}
 use Rattle.std.specs.Prelude.{Option, Some, None, if◌then◌else◌}
-use Rattle.cga_forest.specs.declared.entry.Entry.{Entry}
+use Rattle.cga_forest.specs.declared.slot_entry.SlotEntry.{SlotEntry}
 use Rattle.cga_kept_hulls.specs.declared.hulls.Hulls.{Hulls}
 use Rattle.cga_forest.specs.declared.node.Node.{Node}
 use Rattle.cga_kept_hulls.specs.Hull.{over}
@@ -25,59 +25,60 @@ use Rattle.std.specs.List.Sorted.{IsPermutation}
 use Rattle.cga_forest.proofs.Present.{kids_present}
 use Rattle.cga_forest.proofs.Right.{AllRight-part, right_exact, right_same, over_zero}
 
-pub present_flag : (b : Bool) (s : Option Entry) → present_of (flag_if b s) ≡ (if b then None else present_of s)
+pub present_flag : (b : Bool) (s : Option SlotEntry) → present_of (flag_if b s) ≡ (if b then None else present_of s)
 present_flag false s = refl
 present_flag true None = refl
 present_flag true (Some e) = refl
 
-pub marked_flag : (b : Bool) (s : Option Entry) → marked_of (flag_if b s) ≡ marked_of s
+pub marked_flag : (b : Bool) (s : Option SlotEntry) → marked_of (flag_if b s) ≡ marked_of s
 marked_flag false s = refl
 marked_flag true None = refl
 marked_flag true (Some e) = elim e.former as (λ o. (if e.came then None else Some (seen (restored (record e { aside = true; touched = true }) o))) ≡ (if e.came then None else Some (seen (restored e o)))) [ None ↦ refl | Some f ↦ refl ]
 
-pub present_settled : (s : Option Entry) → present_of (settled s) ≡ present_of s
+pub present_settled : (s : Option SlotEntry) → present_of (settled s) ≡ present_of s
 present_settled None = refl
 present_settled (Some e) = search rules
 
-pub present_rolled : (s : Option Entry) → present_of (rolled s) ≡ marked_of s
+pub present_rolled : (s : Option SlotEntry) → present_of (rolled s) ≡ marked_of s
 present_rolled None = refl
 present_rolled (Some e) = search rules
 
-pub settled_plain : (s : Option Entry) (e : Entry) → settled s ≡ Some e → IsPlain e
+pub settled_plain : (s : Option SlotEntry) (e : SlotEntry) → settled s ≡ Some e → IsPlain e
 settled_plain None e h = absurd (cc)
 settled_plain (Some x) e h = search rules
 
-pub rolled_plain : (s : Option Entry) (e : Entry) → rolled s ≡ Some e → IsPlain e
+pub rolled_plain : (s : Option SlotEntry) (e : SlotEntry) → rolled s ≡ Some e → IsPlain e
 rolled_plain None e h = absurd (cc)
 rolled_plain (Some x) e h = search rules
 
-pub marked_plain : (s : Option Entry) → ((e : Entry) → s ≡ Some e → IsPlain e) → marked_of s ≡ present_of s
+pub marked_plain : (s : Option SlotEntry) → ((e : SlotEntry) → s ≡ Some e → IsPlain e) → marked_of s ≡ present_of s
 marked_plain None h = refl
 marked_plain (Some e) h = let p = h e refl in search (rules, p.here, p.old, p.same)
 
-pub hulls_flag : (b : Bool) (s : Option Entry) → hulls_of (flag_if b s) ≡ hulls_of s
+pub hulls_flag : (b : Bool) (s : Option SlotEntry) → hulls_of (flag_if b s) ≡ hulls_of s
 hulls_flag false s = refl
 hulls_flag true None = refl
 hulls_flag true (Some e) = refl
 
-pub marked_hulls_flag : (b : Bool) (s : Option Entry) → marked_hulls_of (flag_if b s) ≡ marked_hulls_of s
+pub marked_hulls_flag : (b : Bool) (s : Option SlotEntry) → marked_hulls_of (flag_if b s) ≡ marked_hulls_of s
 marked_hulls_flag false s = refl
 marked_hulls_flag true None = refl
 marked_hulls_flag true (Some e) = refl
 
 -- the hulls of a present slot stay
-pub hulls_settled : (s : Option Entry) (d : Seen) → present_of s ≡ Some d → hulls_of (settled s) ≡ hulls_of s
+pub hulls_settled : (s : Option SlotEntry) (d : Seen) → present_of s ≡ Some d → hulls_of (settled s) ≡ hulls_of s
 hulls_settled None d h = refl
 hulls_settled (Some e) d h = elim (bool_cases e.aside) [
   | inl y ↦ (let z : None ≡ Some d = ap (λ b. if b then None else Some (seen e)) (sym y) ∙ h in absurd (cc))
   | inr n ↦ ap (λ b. hulls_of (if b then None else Some (record e { came = false; touched = false; former = None; former_hulls = None }))) n
 ]
 
-pub hulls_rolled : (s : Option Entry) → hulls_of (rolled s) ≡ marked_hulls_of s
+pub hulls_rolled : (s : Option SlotEntry) → hulls_of (rolled s) ≡ marked_hulls_of s
 hulls_rolled None = refl
 hulls_rolled (Some e) = elim e.came as (λ b. hulls_of (if b then None else Some (record (restored e e.former) { hulls = former_hulls e.hulls e.former_hulls; aside = false; came = false; touched = false; former = None; former_hulls = None })) ≡ (if b then None else Some (hulls_known e.node (former_hulls e.hulls e.former_hulls)))) [ true ↦ refl | false ↦ ap (λ h. Some h) (known_restored e e.former (former_hulls e.hulls e.former_hulls)) ]
 
-pub marked_hulls_plain : (s : Option Entry) → ((e : Entry) → s ≡ Some e → IsPlain e) → marked_hulls_of s ≡ hulls_of s
+pub marked_hulls_plain : (s : Option SlotEntry) → ((e : SlotEntry) → s ≡ Some e → IsPlain e)
+    → marked_hulls_of s ≡ hulls_of s
 marked_hulls_plain None h = refl
 marked_hulls_plain (Some e) h = let p = h e refl in let a = p.old in let b = p.hulls in search (rules, a, b)
 
@@ -147,7 +148,7 @@ IsWhole-from S T J t r p s f = record {
   few = few-part S T (λ c e x. sym (t c) ∙ x) f;
 }
 
-pub new_root : (s : Option Entry) (node : Node) (marking : Bool) → IsTop node
+pub new_root : (s : Option SlotEntry) (node : Node) (marking : Bool) → IsTop node
     → IsNewEntry s None node (length node.shape.path) (last_from 0 node.shape.path) marking
     → IsNewEntry s None node 0 0 marking
 new_root s node marking top made = subst (λ (p : List ℕ). IsNewEntry s None node (length p) (last_from 0 p) marking) top.path made
@@ -204,7 +205,7 @@ module _ (old new : ForestView) (id : ℕ) (node : Node) (fresh : slot_at old id
     marked = λ q. let on : old.marking ≡ true = sym m ∙ q in IsWhole-same (marked_at old) (marked_at new) (marked_hulls_at old) (marked_hulls_at new) (added_mark on) (λ c e t. added_mark_hulls on c) (f.marked on);
     plain = λ q k x t. let off : old.marking ≡ false = sym m ∙ q in elim (nat_cases k id) [
       | inl y ↦ (let z : Some made.entry ≡ Some x = sym made.here ∙ ap (slot_at new) (sym y) ∙ t in let w : made.entry ≡ x = (cc) in
-          record { here = ap (λ (r : Entry). r.aside) (sym w) ∙ made.shows; old = ap (λ (r : Entry). r.came) (sym w) ∙ made.comes ∙ off; same = ap (λ (r : Entry). r.former) (sym w) ∙ made.nothing; hulls = ap (λ (r : Entry). r.former_hulls) (sym w) ∙ made.no_hulls })
+          record { here = ap (λ (r : SlotEntry). r.aside) (sym w) ∙ made.shows; old = ap (λ (r : SlotEntry). r.came) (sym w) ∙ made.comes ∙ off; same = ap (λ (r : SlotEntry). r.former) (sym w) ∙ made.nothing; hulls = ap (λ (r : SlotEntry). r.former_hulls) (sym w) ∙ made.no_hulls })
       | inr n ↦ f.plain off k x (sym (others k n) ∙ t)
     ];
   }

@@ -7,7 +7,7 @@ use Rattle.cga_index.proofs.Door.{in_at, in_flat, in_left, in_right, in_some, in
 use Rattle.std.proofs.lemmas.Bool.{cases_Bool as bool_cases}
 use Rattle.cga_order.specs.World.{Among}
 use Rattle.cga_tree.specs.Tree.{IsTree}
-use Rattle.cga_forest.specs.declared.entry.Entry.{Entry}
+use Rattle.cga_forest.specs.declared.slot_entry.SlotEntry.{SlotEntry}
 use Rattle.cga_forest.specs.declared.moved.Moved.{Moved}
 use Rattle.cga_forest.specs.declared.node.Node.{Node}
 use Rattle.cga_forest.specs.View.{Seen, kids, present_of}
@@ -162,7 +162,7 @@ module _ (K : ℕ → List ℕ) (T : ℕ → Option Seen) (tree : IsTree T) (kid
 
 -- ---- the list below a node of a forest
 
-pub lists_below : (s : ℕ → Option Entry) → IsTree (λ c. present_of (s c)) → (id : ℕ) (e : Seen)
+pub lists_below : (s : ℕ → Option SlotEntry) → IsTree (λ c. present_of (s c)) → (id : ℕ) (e : Seen)
     → present_of (s id) ≡ Some e
     → Lists (λ c. present_of (s c)) (λ c. under (λ d. children_of (present_of (s d))) 257 id c ≡ true)
     (found s (below (λ d. kids (s d)) 257 id))
@@ -179,7 +179,7 @@ lists_below s tree id e t =
             let w = present_some (s f.0) d.0 d.1 in
             let z : Some f.1 ≡ Some w.0 = sym f.3 ∙ w.1 in
             let y : f.1 ≡ w.0 = (cc) in
-            (f.0, d.0, d.1, sym (under_same K T tree are 257 id f.0 e t) ∙ u, f.4 ∙ ap (λ (x : Entry). moved_node f.0 x.node) y ∙ ap (λ (x : Seen). moved_of f.0 x) w.2)),
+            (f.0, d.0, d.1, sym (under_same K T tree are 257 id f.0 e t) ∙ u, f.4 ∙ ap (λ (x : SlotEntry). moved_node f.0 x.node) y ∙ ap (λ (x : Seen). moved_of f.0 x) w.2)),
         (λ h.
             let c = h.0 in
             let w = present_some (s c) h.1 h.2 in

@@ -3,7 +3,7 @@ use Rattle.std.proofs.Common.{◌≡◌, ◌≢◌, ℕ, ◌+◌, List, [], ◌�
 use Rattle.std.specs.Prelude.{Option, Some, None}
 use Rattle.cga_order.specs.Chain as order
 use Rattle.cga_forest.specs.declared.node.Node.{Node}
-use Rattle.cga_forest.specs.declared.node.State.{State}
+use Rattle.cga_forest.specs.declared.node.NodeState.{NodeState}
 use Rattle.cga_forest.specs.Node.{fits, with_state, chain_kept, IsTop, IsBelow}
 use Rattle.cga_forest.specs.View.{Seen}
 use Rattle.cga_forest.specs.Tree.{InPlace, IsInner}
@@ -65,7 +65,7 @@ InPlace-root S T id e fresh here root top others tree s =
     }
 
 -- one node's children are replaced, and its state
-module _ (S T : ℕ → Option Seen) (id : ℕ) (state : State) (news : List Node) (made : List ℕ) (e : Seen) (gone : ℕ → Bool)
+module _ (S T : ℕ → Option Seen) (id : ℕ) (state : NodeState) (news : List Node) (made : List ℕ) (e : Seen) (gone : ℕ → Bool)
     (r : IsReplaced fits S T id news e (record e { node = with_state state e.node; children = made }) gone) (tree : IsTree S) (after : IsTree T) (s : InPlace S) (inner : IsInner e state news) where
   abbrev now : Seen
   now = record e { node = with_state state e.node; children = made }

@@ -1,12 +1,12 @@
 -- Hulls, right at a node by its children's hulls.
 use Rattle.std.proofs.Common.{◌≡◌, ◌≢◌, inl, inr, ℕ, zero, suc, ◌+◌, ◌<◌, List, length, Bool, true, false, refl, ap, sym, ◌∙◌, arith}
 use Rattle.std.specs.Prelude.{Option, Some, None, is_some, slice_get, if◌then◌else◌}
-use Rattle.cga_forest.specs.declared.entry.Entry.{Entry}
+use Rattle.cga_forest.specs.declared.slot_entry.SlotEntry.{SlotEntry}
 use Rattle.cga_kept_hulls.specs.declared.hulls.Hulls.{Hulls}
 use Rattle.cga_kept_hulls.specs.Hull.{over, with_hulls, at_hulls, holds_hulls, alike, grown_from}
-use Rattle.cga_forest.specs.declared.due.Due.{Due}
-use Rattle.cga_forest.specs.declared.due.Due.TheVariants.{Grown, Moved}
-use Rattle.cga_forest.specs.Due.{HoldsAll, due_above, grown_of}
+use Rattle.cga_forest.specs.declared.hulls_due.HullsDue.{HullsDue}
+use Rattle.cga_forest.specs.declared.hulls_due.HullsDue.TheVariants.{Grown, Moved}
+use Rattle.cga_forest.specs.HullsDue.{HoldsAll, due_above, grown_of}
 use Rattle.cga_forest.specs.Hull.{own_hulls, hulls_known}
 use Rattle.cga_forest.specs.View.{Seen, hulls_of, present_of, rehulled, kids}
 use Rattle.cga_forest.specs.Tree.{IsRight, AllRight, RightBut, IsDue, hulls_now, hulls_next, parent_of, depth_at}
@@ -174,7 +174,7 @@ right_kept T H id e old new here was made same but c d t = elim (nat_cases c id)
   | inr ne ↦ but c d ne t
 ]
 
-pub hulls_now_of : (H : ℕ → Option Hulls) (s : Option Entry) (e : Entry) (own h : Hulls) → s ≡ Some e
+pub hulls_now_of : (H : ℕ → Option Hulls) (s : Option SlotEntry) (e : SlotEntry) (own h : Hulls) → s ≡ Some e
     → own ≡ own_hulls e.node → h ≡ over H own e.children.items (length e.children.items) → hulls_now H s ≡ Some h
 hulls_now_of H s e own h q o r = ap (hulls_now H) q ∙ ap (λ w. Some (over H w e.children.items (length e.children.items))) (sym o) ∙ ap (λ w. Some w) (sym r)
 
@@ -189,20 +189,21 @@ grown_told : (grew : Bool) (new : Hulls) (place : ℕ)
 grown_told true new place = refl
 grown_told false new place = refl
 
-pub grown_above : (new old : Hulls) (place : ℕ) (told : Due) → told ≡ due_above new old place
+pub grown_above : (new old : Hulls) (place : ℕ) (told : HullsDue) → told ≡ due_above new old place
     → grown_of told ≡ grown_from new old
 grown_above new old place told q = ap grown_of q ∙ grown_told (holds_hulls new old) new place
 
 -- ---- the same at slots
 
-pub hulls_now_at : (H : ℕ → Option Hulls) (s : Option Entry) (d : Seen) → present_of s ≡ Some d
+pub hulls_now_at : (H : ℕ → Option Hulls) (s : Option SlotEntry) (d : Seen) → present_of s ≡ Some d
     → hulls_now H s ≡ Some (over H (own_hulls d.node) d.children (length d.children))
 hulls_now_at H s d h = let w = present_some s d h in ap (hulls_now H) w.1 ∙ ap (λ (x : Seen). Some (over H (own_hulls x.node) x.children (length x.children))) w.2
 
-rehulled_at : (s : Option Entry) (d : Seen) (h : Hulls) → present_of s ≡ Some d → rehulled h (hulls_of s) ≡ Some h
+rehulled_at : (s : Option SlotEntry) (d : Seen) (h : Hulls) → present_of s ≡ Some d → rehulled h (hulls_of s) ≡ Some h
 rehulled_at s d h p = let w = present_some s d p in ap (λ o. rehulled h (hulls_of o)) w.1
 
-next_made : (H : ℕ → Option Hulls) (s : Option Entry) (d : Seen) (g : Option Hulls) (h : Hulls) → present_of s ≡ Some d
+next_made : (H : ℕ → Option Hulls) (s : Option SlotEntry) (d : Seen) (g : Option Hulls) (h : Hulls)
+    → present_of s ≡ Some d
     → Some h ≡ hulls_next H s g
     → ((old k : Hulls) → hulls_of s ≡ Some old → g ≡ Some k
     → alike (with_hulls old (Some k)) (over H (own_hulls d.node) d.children (length d.children)) ≡ true)
@@ -216,7 +217,7 @@ next_made H (Some x) d (Some k) h p is due =
     let y : h ≡ with_hulls (hulls_known x.node x.hulls) (Some k) = (cc) in
     ap (λ u. alike u (over H (own_hulls d.node) d.children (length d.children))) y ∙ due (hulls_known x.node x.hulls) k refl refl
 
-module _ (s : ℕ → Option Entry) (id : ℕ) (g : Option Hulls) (old new : Hulls) (e : Seen) (here : present_of (s id) ≡ Some e)
+module _ (s : ℕ → Option SlotEntry) (id : ℕ) (g : Option Hulls) (old new : Hulls) (e : Seen) (here : present_of (s id) ≡ Some e)
     (was : Some old ≡ hulls_of (s id)) (is : Some new ≡ hulls_next (λ c. hulls_of (s c)) (s id) g)
     (tree : IsTree (λ c. present_of (s c))) (but : RightBut (λ c. present_of (s c)) (λ c. hulls_of (s c)) id) (due : IsDue (λ c. present_of (s c)) (λ c. hulls_of (s c)) id g) where
   made : alike new (over (λ c. hulls_of (s c)) (own_hulls e.node) e.children (length e.children)) ≡ true
@@ -225,7 +226,7 @@ module _ (s : ℕ → Option Entry) (id : ℕ) (g : Option Hulls) (old new : Hul
   pub step_kept : alike new old ≡ true → AllRight (λ c. present_of (s c)) (λ c. hulls_of (s c))
   step_kept same = right_kept (λ c. present_of (s c)) (λ c. hulls_of (s c)) id e old new here (sym was) made same but
 
-  module _ (t : ℕ → Option Entry) (others : (c : ℕ) → c ≢ id → t c ≡ s c) (present : present_of (t id) ≡ present_of (s id)) (hulls : hulls_of (t id) ≡ rehulled new (hulls_of (s id))) where
+  module _ (t : ℕ → Option SlotEntry) (others : (c : ℕ) → c ≢ id → t c ≡ s c) (present : present_of (t id) ≡ present_of (s id)) (hulls : hulls_of (t id) ≡ rehulled new (hulls_of (s id))) where
     pub present_now : (c : ℕ) → present_of (t c) ≡ present_of (s c)
     present_now c = elim (nat_cases c id) [
       | inl q ↦ ap (λ i. present_of (t i)) q ∙ present ∙ ap (λ i. present_of (s i)) (sym q)
@@ -254,7 +255,8 @@ module _ (s : ℕ → Option Entry) (id : ℕ) (g : Option Hulls) (old new : Hul
         → IsDue (λ c. present_of (t c)) (λ c. hulls_of (t c)) p grown
     step_due p up grown q d mine k x h g = due_up (λ c. present_of (t c)) (λ c. hulls_of (s c)) (λ c. hulls_of (t c)) tree_now id e here_now (λ c n. ap hulls_of (others c n)) new written made but_now old (sym was) p (sym (parent_present (t id) e here_now) ∙ up) d mine k x h (sym q ∙ g)
 
-    pub step_within : (p : ℕ) → parent_of (t id) ≡ Some p → (place : ℕ) (told : Due) → told ≡ due_above new old place
+    pub step_within : (p : ℕ) → parent_of (t id) ≡ Some p → (place : ℕ) (told : HullsDue)
+        → told ≡ due_above new old place
         → HoldsAll (λ c. present_of (t c)) (λ c. hulls_of (t c)) p told
     step_within p up place told is_told d mine k i x h q inside =
         let same = moved_told (holds_hulls new old) new k place i (sym is_told ∙ q) in
@@ -274,6 +276,7 @@ module _ (s : ℕ → Option Entry) (id : ℕ) (g : Option Hulls) (old new : Hul
         let a = depth_present (t p) u.0 u.1 in let b = depth_present (s id) e here in let k = d.3 in omega arith
 
 -- with no hulls to write there is no node
-pub none_there : (H : ℕ → Option Hulls) (s : Option Entry) → hulls_now H s ≡ None → is_some (present_of s) ≡ true → ⊥
+pub none_there : (H : ℕ → Option Hulls) (s : Option SlotEntry) → hulls_now H s ≡ None
+    → is_some (present_of s) ≡ true → ⊥
 none_there H None h p = (cc)
 none_there H (Some e) h p = (cc)

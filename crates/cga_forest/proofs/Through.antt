@@ -2,7 +2,7 @@
 use Rattle.std.proofs.Common.{refl, ◌≡◌, ℕ, Bool, List}
 use Rattle.std.specs.Prelude.{Option}
 use Rattle.cga_forest.specs.declared.node.Node.{Node}
-use Rattle.cga_forest.specs.declared.node.State.{State}
+use Rattle.cga_forest.specs.declared.node.NodeState.{NodeState}
 use Rattle.cga_forest.specs.View.{Seen}
 use Rattle.cga_forest.specs.Tree.{Replaces, ReplacedBy}
 use Rattle.cga_tree.specs.Tree.{IsTree}
@@ -15,20 +15,20 @@ use Rattle.cga_forest.specs.Moved.{ListsMoved}
 pub same_functions : (f g : ℕ → Option Seen) → ((c : ℕ) → f c ≡ g c) → f ≡ g
 same_functions f g h = λ i. λ c. h c i
 
-pub Replaces-same : (a b s t : ℕ → Option Seen) (id : ℕ) (state : State) (news : List Node) → ((c : ℕ) → s c ≡ a c)
+pub Replaces-same : (a b s t : ℕ → Option Seen) (id : ℕ) (state : NodeState) (news : List Node) → ((c : ℕ) → s c ≡ a c)
     → ((c : ℕ) → t c ≡ b c) → Replaces a b id state news → Replaces s t id state news
 Replaces-same a b s t id state news p q r =
     let x : s ≡ a = same_functions s a p in
     let y : t ≡ b = same_functions t b q in rw (x, y) r
 
-pub ReplacedBy-same : (a b s t : ℕ → Option Seen) (id : ℕ) (state : State) (news : List Node) (gone : ℕ → Bool)
+pub ReplacedBy-same : (a b s t : ℕ → Option Seen) (id : ℕ) (state : NodeState) (news : List Node) (gone : ℕ → Bool)
     → ((c : ℕ) → s c ≡ a c) → ((c : ℕ) → t c ≡ b c) → ReplacedBy a b id state news gone
     → ReplacedBy s t id state news gone
 ReplacedBy-same a b s t id state news gone p q r =
     let x : s ≡ a = same_functions s a p in
     let y : t ≡ b = same_functions t b q in rw (x, y) r
 
-pub Replaces-from : (old new : ℕ → Option Seen) (id : ℕ) (state : State) (news : List Node) (gone : ℕ → Bool)
+pub Replaces-from : (old new : ℕ → Option Seen) (id : ℕ) (state : NodeState) (news : List Node) (gone : ℕ → Bool)
     → ReplacedBy old new id state news gone → Replaces old new id state news
 Replaces-from old new id state news gone r = (r.0, r.1, gone, r.2)
 
@@ -38,7 +38,7 @@ ListsMoved-same a b s t list p q r =
     let x : s ≡ a = same_functions s a p in
     let y : t ≡ b = same_functions t b q in rw (x, y) r
 
-pub tops_replaced : (S T : ℕ → Option Seen) (roots : Named) (id : ℕ) (state : State) (news : List Node)
+pub tops_replaced : (S T : ℕ → Option Seen) (roots : Named) (id : ℕ) (state : NodeState) (news : List Node)
     (gone : ℕ → Bool)
     → ReplacedBy S T id state news gone → IsTree S → HasRoots S roots → HasRoots T roots
 tops_replaced S T roots id state news gone r tree tops = HasRoots-replaced S T roots tops id news r.0 _ gone r.2 refl tree

@@ -7,7 +7,7 @@ use Rattle.std.proofs.lemmas.List.{take_all}
 use Rattle.std.proofs.lemmas.Option.{get_or_from_slice_get, slice_get_cases}
 use Rattle.std.proofs.Common.{inl, inr}
 use Rattle.std.specs.Prelude.{slice_get, Option, Some, None}
-use Rattle.cga_forest.specs.declared.entry.Entry.{Entry}
+use Rattle.cga_forest.specs.declared.slot_entry.SlotEntry.{SlotEntry}
 use Rattle.cga_forest.specs.declared.moved.Moved.{Moved}
 use Rattle.cga_forest.specs.declared.node.Node.{Node}
 use Rattle.cga_forest.specs.Moved.{is_listed}
@@ -37,12 +37,12 @@ unfolding under
 under_step a zero id c h = absurd (omega arith)
 under_step a (suc n) id c h = let e : suc n - 1 ≡ n = omega arith in rw e refl
 
-pub kids_flag : (b : Bool) (s : Option Entry) → kids (flag_if b s) ≡ kids s
+pub kids_flag : (b : Bool) (s : Option SlotEntry) → kids (flag_if b s) ≡ kids s
 kids_flag false s = refl
 kids_flag true None = refl
 kids_flag true (Some e) = refl
 
-pub flag_flag : (a b : Bool) (s : Option Entry) → flag_if b (flag_if a s) ≡ flag_if (a || b) s
+pub flag_flag : (a b : Bool) (s : Option SlotEntry) → flag_if b (flag_if a s) ≡ flag_if (a || b) s
 flag_flag false b s = refl
 flag_flag true false s = refl
 flag_flag true true None = refl
@@ -69,7 +69,7 @@ or_assoc false b c = refl
 or_assoc true b c = refl
 
 -- a step of the walk that sets aside: what the child's call flags, on top of what is flagged so far
-pub flags_next : (ch : ℕ → List ℕ) (old now new : ℕ → Option Entry) (n id i k : ℕ) → slice_get (ch id) i ≡ Some k
+pub flags_next : (ch : ℕ → List ℕ) (old now new : ℕ → Option SlotEntry) (n id i k : ℕ) → slice_get (ch id) i ≡ Some k
     → ((d : ℕ) → kids (old d) ≡ ch d)
     → ((c : ℕ) → now c ≡ flag_if (nat_eq id c || list_any (λ k. under ch n k c) (take i (ch id))) (old c))
     → ((c : ℕ) → new c ≡ flag_if (under (λ d. kids (now d)) n k c) (now c))
@@ -80,18 +80,19 @@ flags_next ch old now new n id i k at same h called c =
     let e1 : under (λ d. kids (now d)) n k c ≡ under ch n k c = under_ext (λ d. kids (now d)) ch (λ d. ap kids (h d) ∙ kids_flag _ (old d) ∙ same d) n k c in
     called c ∙ ap (λ b. flag_if b (now c)) e1 ∙ ap (flag_if (under ch n k c)) (h c) ∙ flag_flag done (under ch n k c) (old c) ∙ ap (λ b. flag_if b (old c)) (or_assoc (nat_eq id c) (list_any p (take i (ch id))) (under ch n k c) ∙ ap (λ b. nat_eq id c || b) (sym (any_take_next p (ch id) i k at)))
 
-pub flags_none : (ch : ℕ → List ℕ) (old now : ℕ → Option Entry) (n id i : ℕ) → slice_get (ch id) i ≡ None
+pub flags_none : (ch : ℕ → List ℕ) (old now : ℕ → Option SlotEntry) (n id i : ℕ) → slice_get (ch id) i ≡ None
     → ((c : ℕ) → now c ≡ flag_if (nat_eq id c || list_any (λ k. under ch n k c) (take i (ch id))) (old c))
     → (c : ℕ) → now c ≡ flag_if (nat_eq id c || list_any (λ k. under ch n k c) (take (i + 1) (ch id))) (old c)
 flags_none ch old now n id i at h c = h c ∙ ap (λ b. flag_if (nat_eq id c || b) (old c)) (sym (any_take_none (λ k. under ch n k c) (ch id) i at))
 
-pub stay_flag : (b : Bool) (s : Option Entry) (w : Option Node) → stay_of (flag_if b s) w ≡ stay_of s w
+pub stay_flag : (b : Bool) (s : Option SlotEntry) (w : Option Node) → stay_of (flag_if b s) w ≡ stay_of s w
 stay_flag false s w = refl
 stay_flag true None w = refl
 stay_flag true (Some e) w = refl
 
 -- one flag more, on top of what is flagged so far
-pub flag_one : (old now new : ℕ → Option Entry) (test : ℕ → Bool) (k : ℕ) → ((c : ℕ) → now c ≡ flag_if (test c) (old c))
+pub flag_one : (old now new : ℕ → Option SlotEntry) (test : ℕ → Bool) (k : ℕ)
+    → ((c : ℕ) → now c ≡ flag_if (test c) (old c))
     → new k ≡ flag_if true (now k) → ((c : ℕ) → c ≢ k → new c ≡ now c)
     → (c : ℕ) → new c ≡ flag_if (test c || nat_eq k c) (old c)
 flag_one old now new test k so_far here others c = elim (eq_or_ne c k) [

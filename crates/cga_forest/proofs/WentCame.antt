@@ -8,7 +8,7 @@ use Rattle.std.proofs.lemmas.Bool.{cases_Bool as bool_cases, eqb-true, ne_eqb, o
 use Rattle.cga_order.specs.World.{Among}
 use Rattle.cga_tree.specs.Tree.{IsTree}
 use Rattle.cga_tree.specs.Replaced.{IsReplaced}
-use Rattle.cga_forest.specs.declared.entry.Entry.{Entry}
+use Rattle.cga_forest.specs.declared.slot_entry.SlotEntry.{SlotEntry}
 use Rattle.cga_forest.specs.declared.moved.Moved.{Moved}
 use Rattle.cga_forest.specs.declared.node.Node.{Node}
 use Rattle.cga_forest.specs.Node.{fits}
@@ -99,7 +99,7 @@ module _ (olds children : List ℕ) where
 
 -- ---- the nodes that go
 
-module _ (s : ℕ → Option Entry) (id n : ℕ) (news : List Node) (e : Seen) (tree : IsTree (λ c. present_of (s c))) (was : present_of (s id) ≡ Some e) where
+module _ (s : ℕ → Option SlotEntry) (id n : ℕ) (news : List Node) (e : Seen) (tree : IsTree (λ c. present_of (s c))) (was : present_of (s id) ≡ Some e) where
   abbrev goers : List ℕ
   goers = going (λ d. kids (s d)) n (λ k w. stay_of (s k) w) (kids (s id)) news (length (kids (s id)))
 
@@ -141,7 +141,7 @@ module _ (s : ℕ → Option Entry) (id n : ℕ) (news : List Node) (e : Seen) (
       let w = present_some (s c) u.0 u.1 in
       listed_has (found s goers) (moved_node c w.0.node) (found_has s goers c w.0 (gone_goers c g) w.1))
 
-module _ (s : ℕ → Option Entry) (T : ℕ → Option Seen) (id n : ℕ) (news : List Node) (e now : Seen) (tree : IsTree (λ c. present_of (s c)))
+module _ (s : ℕ → Option SlotEntry) (T : ℕ → Option Seen) (id n : ℕ) (news : List Node) (e now : Seen) (tree : IsTree (λ c. present_of (s c)))
     (r : IsReplaced fits (λ c. present_of (s c)) T id news e now (λ c. goes (λ d. kids (s d)) n (λ k w. stay_of (s k) w) (kids (s id)) news (length (kids (s id))) c)) where
   abbrev gone : ℕ → Bool
   gone c = goes_now s id n news e tree r.was c
@@ -167,7 +167,7 @@ module _ (s : ℕ → Option Entry) (T : ℕ → Option Seen) (id n : ℕ) (news
           let w = present_some (s c) u.0 u.1 in
           let z : Some f.1 ≡ Some w.0 = sym f.3 ∙ w.1 in
           let y : f.1 ≡ w.0 = (cc) in
-          (c, u.0, u.1, r.rest c u.0 (gone_apart c g) u.1 ∙ ap (λ t. if t then None else Some u.0) g, f.4 ∙ ap (λ (x : Entry). moved_node c x.node) y ∙ ap (λ (x : Seen). moved_of c x) w.2)),
+          (c, u.0, u.1, r.rest c u.0 (gone_apart c g) u.1 ∙ ap (λ t. if t then None else Some u.0) g, f.4 ∙ ap (λ (x : SlotEntry). moved_node c x.node) y ∙ ap (λ (x : Seen). moved_of c x) w.2)),
       (λ h.
           let c = h.0 in
           let ne : c ≢ id = (λ y. let z : None ≡ Some now = sym h.3 ∙ ap T y ∙ r.is in (cc)) in
@@ -198,7 +198,7 @@ module _ (s : ℕ → Option Entry) (T : ℕ → Option Seen) (id n : ℕ) (news
       let y : a.0 ≡ b.0 = (cc) in
       sym a.4 ∙ ap (λ (o : Seen). o.index) y ∙ b.4
 
-  module _ (t : ℕ → Option Entry) (shows : (c : ℕ) → T c ≡ present_of (t c)) where
+  module _ (t : ℕ → Option SlotEntry) (shows : (c : ℕ) → T c ≡ present_of (t c)) where
     abbrev comers : List ℕ
     comers = coming (kids (s id)) (kids (t id)) (length (kids (t id)))
 
@@ -237,7 +237,7 @@ module _ (s : ℕ → Option Entry) (T : ℕ → Option Seen) (id n : ℕ) (news
             let w = present_some (t c) u.1.0 (sym (shows c) ∙ u.1.1) in
             let z : Some f.1 ≡ Some w.0 = sym f.3 ∙ w.1 in
             let y : f.1 ≡ w.0 = (cc) in
-            (c, u.1.0, u.1.1, u.0, f.4 ∙ ap (λ (x : Entry). moved_node c x.node) y ∙ ap (λ (x : Seen). moved_of c x) w.2)),
+            (c, u.1.0, u.1.1, u.0, f.4 ∙ ap (λ (x : SlotEntry). moved_node c x.node) y ∙ ap (λ (x : Seen). moved_of c x) w.2)),
         (λ h.
             let c = h.0 in
             let w = present_some (t c) h.1 (sym (shows c) ∙ h.2) in

@@ -1,7 +1,7 @@
 pub mod Node
 pub mod Hull
 pub mod Count
-pub mod Due
+pub mod HullsDue
 pub mod View
 pub mod Marks
 pub mod Roots

@@ -2,13 +2,13 @@
 use Rattle.std.proofs.Common.{refl, sym}
 use Rattle.std.specs.Prelude.{◌≡◌, Some, None, IfSome, Bool, true, false, if◌then◌else◌}
 use Rattle.cga_marked.specs.Marked.{AreMarks, IsCalm}
-use Rattle.cga_forest.specs.declared.entry.Entry.{Entry}
+use Rattle.cga_forest.specs.declared.slot_entry.SlotEntry.{SlotEntry}
 use Rattle.cga_forest.specs.View.{IsPlain, touched_of, aside_of, touched_entry, hidden_entry, settled_entry, rolled_entry, restored, former_hulls}
 
-settled_calm : (e : Entry) → IsCalm touched_of IsPlain e → settled_entry e ≡ Some e
+settled_calm : (e : SlotEntry) → IsCalm touched_of IsPlain e → settled_entry e ≡ Some e
 settled_calm e m = λ i. if m.plain.here i then None else Some (record e { came = sym m.plain.old i; touched = sym m.untouched i; former = sym m.plain.same i; former_hulls = sym m.plain.hulls i })
 
-settles : (e : Entry) → IfSome (settled_entry e) (IsCalm touched_of IsPlain)
+settles : (e : SlotEntry) → IfSome (settled_entry e) (IsCalm touched_of IsPlain)
 settles e = by_flag e.aside refl
   where
     by_flag : (b : Bool) → e.aside ≡ b
@@ -17,10 +17,10 @@ settles e = by_flag e.aside refl
     by_flag true q = tt
     by_flag false q = record { untouched = refl; plain = record { here = q; old = refl; same = refl; hulls = refl } }
 
-rolled_calm : (e : Entry) → IsCalm touched_of IsPlain e → rolled_entry e ≡ Some e
+rolled_calm : (e : SlotEntry) → IsCalm touched_of IsPlain e → rolled_entry e ≡ Some e
 rolled_calm e m = λ i. if m.plain.old i then None else Some (record (restored e (m.plain.same i)) { hulls = former_hulls e.hulls (m.plain.hulls i); aside = sym m.plain.here i; came = sym m.plain.old i; touched = sym m.untouched i; former = sym m.plain.same i; former_hulls = sym m.plain.hulls i })
 
-rolls : (e : Entry) → IfSome (rolled_entry e) (IsCalm touched_of IsPlain)
+rolls : (e : SlotEntry) → IfSome (rolled_entry e) (IsCalm touched_of IsPlain)
 rolls e = by_flag e.came
   where
     by_flag : (b : Bool)

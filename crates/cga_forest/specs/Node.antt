@@ -11,16 +11,16 @@ use Rattle.cga_shape.specs.Equal.{same_shape}
 use Rattle.cga_word.specs.declared.primitive.Primitive.{Primitive}
 use Rattle.cga_word.specs.contracts.primitive.Primitive as primitive
 use Rattle.cga_forest.specs.declared.node.Node.{Node}
-use Rattle.cga_forest.specs.declared.node.State.{State}
+use Rattle.cga_forest.specs.declared.node.NodeState.{NodeState}
 
 -- the world box of the node's scope
 unfoldable pub bounds : Node → Box
 bounds n = box_of n.shape.scope
 
-abbrev pub state_of : Node → State
+abbrev pub state_of : Node → NodeState
 state_of n = record { kind = n.kind; answers = n.answers; asks = n.asks }
 
-abbrev pub with_state : State → Node → Node
+abbrev pub with_state : NodeState → Node → Node
 with_state s n = record n { kind = s.kind; answers = s.answers; asks = s.asks }
 
 -- its lot, its path and the kept priorities on it

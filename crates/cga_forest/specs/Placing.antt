@@ -17,7 +17,7 @@ use Rattle.cga_shape.specs.declared.emitted.Emitted.TheVariants.{Child, Solid}
 use Rattle.cga_shape.specs.declared.shape.Shape.{Shape}
 use Rattle.cga_shape.specs.declared.shape_fault.ShapeFault.{ShapeFault}
 use Rattle.cga_forest.specs.declared.node.Node.{Node}
-use Rattle.cga_forest.specs.declared.node.State.{State}
+use Rattle.cga_forest.specs.declared.node.NodeState.{NodeState}
 use Rattle.cga_forest.specs.View.{Seen}
 
 abbrev pub unasked : Answers
@@ -80,7 +80,7 @@ kind_after (Ok es) = Done
 kind_after (Err fault) = Faulted fault
 
 -- a node with its outcome and the answers that it was given
-abbrev pub state_after : Grammar → Node → Answers → Outcome → State
+abbrev pub state_after : Grammar → Node → Answers → Outcome → NodeState
 state_after g n answers outcome = record { kind = kind_after outcome; answers = answers; asks = asks_any (said g n.shape.symbol) }
 
 -- its children

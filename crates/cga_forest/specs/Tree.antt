@@ -2,10 +2,10 @@
 use Rattle.std.specs.Prelude.{◌≡◌, ◌≢◌, ◌⊎◌, ◌↔◌, ℕ, zero, suc, ◌<◌, ◌≤◌, List, [], length, Option, Some, None, Bool, true, false, ◌||◌, nat_eq, slice_get, if◌then◌else◌}
 use Rattle.std.specs.List.{list_any}
 use Rattle.cga_frame.specs.Box.{Box, holds}
-use Rattle.cga_forest.specs.declared.entry.Entry.{Entry}
+use Rattle.cga_forest.specs.declared.slot_entry.SlotEntry.{SlotEntry}
 use Rattle.cga_forest.specs.declared.node.Node.{Node}
 use Rattle.cga_kept_hulls.specs.declared.hulls.Hulls.{Hulls}
-use Rattle.cga_forest.specs.declared.node.State.{State}
+use Rattle.cga_forest.specs.declared.node.NodeState.{NodeState}
 use Rattle.cga_forest.specs.Node.{bounds, chain_kept, fits, with_state, IsBelow, IsTop}
 use Rattle.cga_forest.specs.Hull.{own_hulls, hulls_known}
 use Rattle.cga_kept_hulls.specs.Hull.{over, with_hulls, alike}
@@ -55,13 +55,13 @@ pub record IsWhole (T : ℕ → Option Seen) (H : ℕ → Option Hulls) : Type 0
   pub few : HaveFew T
 
 pub record ForestView : Type 0 where
-  pub slots : List (Option Entry)
+  pub slots : List (Option SlotEntry)
   pub marking : Bool
   pub roots : Named
   pub marked_roots : Named
   pub mode : Mode
 
-abbrev pub slot_at : ForestView → ℕ → Option Entry
+abbrev pub slot_at : ForestView → ℕ → Option SlotEntry
 slot_at v id = slot v.slots id
 
 abbrev pub node_at : ForestView → ℕ → Option Seen
@@ -82,7 +82,7 @@ pub record IsForest (v : ForestView) : Type 0 where
   pub tops : HasRoots (node_at v) v.roots
   pub marked_tops : v.marking ≡ true → HasRoots (marked_at v) v.marked_roots
   pub unmarked : v.marking ≡ false → v.marked_roots ≡ v.roots
-  pub plain : v.marking ≡ false → (id : ℕ) (e : Entry) → slot_at v id ≡ Some e → IsPlain e
+  pub plain : v.marking ≡ false → (id : ℕ) (e : SlotEntry) → slot_at v id ≡ Some e → IsPlain e
 
 -- the children of a node that is there
 abbrev pub children_of : Option Seen → List ℕ
@@ -107,11 +107,11 @@ NoneAsks v id = (c : ℕ) (d : Seen) → under (children_at v) 257 id c ≡ true
 abbrev pub IsLeastAsking : ForestView → ℕ → Box → Type 0
 IsLeastAsking v id h = (b : Box) → (holds b h ≡ true) ↔ ((c : ℕ) (d : Seen) → under (children_at v) 257 id c ≡ true → node_at v c ≡ Some d → d.node.asks ≡ true → holds b (bounds d.node) ≡ true)
 
-abbrev pub stay_of : Option Entry → Option Node → Bool
+abbrev pub stay_of : Option SlotEntry → Option Node → Bool
 stay_of None new = false
 stay_of (Some e) new = fits_at fits e.node new
 
-abbrev pub stay_child : (ℕ → Option Entry) → Option ℕ → Node → Option ℕ
+abbrev pub stay_child : (ℕ → Option SlotEntry) → Option ℕ → Node → Option ℕ
 stay_child s None new = None
 stay_child s (Some k) new = if stay_of (s k) (Some new) then Some k else None
 
@@ -126,7 +126,7 @@ goes K n P olds news zero c = false
 goes K n P olds news (suc i) c = goes K n P olds news i c || goes_at K n P (slice_get olds i) (slice_get news i) c
 
 -- the child at a place of the new list is the old one there, which fits, or it came, where the old one doesn't fit
-abbrev pub IsPlacedChild : (ℕ → Option Entry) → (ℕ → Option Entry) → ℕ → ℕ → Bool → List ℕ → Node → ℕ → ℕ → Type 0
+abbrev pub IsPlacedChild : (ℕ → Option SlotEntry) → (ℕ → Option SlotEntry) → ℕ → ℕ → Bool → List ℕ → Node → ℕ → ℕ → Type 0
 IsPlacedChild old now id depth marking olds w i c =
     ((slice_get olds i ≡ Some c) × (stay_of (old c) (Some w) ≡ true))
     ⊎ ((old c ≡ None) × IsNewEntry (now c) (Some id) w depth i marking × ((k : ℕ) → slice_get olds i ≡ Some k → stay_of (old k) (Some w) ≡ false))
@@ -136,18 +136,18 @@ abbrev pub IsAt : ℕ → ℕ → Node → Type 0
 IsAt depth i w = (length w.shape.path ≡ depth) × (last_from 0 w.shape.path ≡ i)
 
 -- the children so far are old ones at their places, or came, and nothing else changed
-pub record IsPlaced (old now : ℕ → Option Entry) (id depth : ℕ) (marking : Bool) (olds : List ℕ) (news : List Node) (made : List ℕ) : Type 0 where
+pub record IsPlaced (old now : ℕ → Option SlotEntry) (id depth : ℕ) (marking : Bool) (olds : List ℕ) (news : List Node) (made : List ℕ) : Type 0 where
   pub each : (i c : ℕ) → slice_get made i ≡ Some c
       → (w : Node) × (slice_get news i ≡ Some w) × IsPlacedChild old now id depth marking olds w i c
-  pub rest : (c : ℕ) (e : Entry) → old c ≡ Some e → now c ≡ Some e
+  pub rest : (c : ℕ) (e : SlotEntry) → old c ≡ Some e → now c ≡ Some e
   pub came : (c : ℕ) → old c ≡ None → (now c ≡ None) ⊎ ((i : ℕ) × (slice_get made i ≡ Some c))
 
-abbrev pub depth_at : Option Entry → ℕ
+abbrev pub depth_at : Option SlotEntry → ℕ
 depth_at None = 0
 depth_at (Some e) = length e.node.shape.path
 
 -- the node isn't an instance, nor in that state, and these few are children of it
-pub record IsInner (e : Seen) (state : State) (news : List Node) : Type 0 where
+pub record IsInner (e : Seen) (state : NodeState) (news : List Node) : Type 0 where
   pub low : 0 < length news → e.depth < 256
   pub was : is_instance e.node.kind ≡ false
   pub is : is_instance state.kind ≡ false
@@ -155,29 +155,29 @@ pub record IsInner (e : Seen) (state : State) (news : List Node) : Type 0 where
   pub children : (i : ℕ) (w : Node) → slice_get news i ≡ Some w → IsBelow (with_state state e.node) i w
 
 -- there is a node, and it may have such children
-abbrev pub HasInner : Option Seen → State → List Node → Type 0
+abbrev pub HasInner : Option Seen → NodeState → List Node → Type 0
 HasInner slot state news = (e : Seen) × (slot ≡ Some e) × IsInner e state news
 
 -- a node's content and children are replaced, and the nodes go that the test names
-abbrev pub ReplacedBy : (ℕ → Option Seen) → (ℕ → Option Seen) → ℕ → State → List Node → (ℕ → Bool) → Type 0
+abbrev pub ReplacedBy : (ℕ → Option Seen) → (ℕ → Option Seen) → ℕ → NodeState → List Node → (ℕ → Bool) → Type 0
 ReplacedBy old new id state news gone = (e : Seen) × (children : List ℕ) × IsReplaced fits old new id news e (record e { node = with_state state e.node; children = children }) gone
 
 -- a node's content and children are replaced, and the subtrees of the children that go
-abbrev pub Replaces : (ℕ → Option Seen) → (ℕ → Option Seen) → ℕ → State → List Node → Type 0
+abbrev pub Replaces : (ℕ → Option Seen) → (ℕ → Option Seen) → ℕ → NodeState → List Node → Type 0
 Replaces old new id state news = (e : Seen) × (children : List ℕ) × (gone : ℕ → Bool) × IsReplaced fits old new id news e (record e { node = with_state state e.node; children = children }) gone
 
 -- the hulls of a slot from its content and its children's hulls
-abbrev pub hulls_now : (ℕ → Option Hulls) → Option Entry → Option Hulls
+abbrev pub hulls_now : (ℕ → Option Hulls) → Option SlotEntry → Option Hulls
 hulls_now H None = None
 hulls_now H (Some e) = Some (over H (own_hulls e.node) e.children.items (length e.children.items))
 
 -- the same, or the old hulls with those of a child that grew
-abbrev pub hulls_next : (ℕ → Option Hulls) → Option Entry → Option Hulls → Option Hulls
+abbrev pub hulls_next : (ℕ → Option Hulls) → Option SlotEntry → Option Hulls → Option Hulls
 hulls_next H s None = hulls_now H s
 hulls_next H None (Some k) = None
 hulls_next H (Some e) (Some k) = Some (with_hulls (hulls_known e.node e.hulls) (Some k))
 
-abbrev pub parent_of : Option Entry → Option ℕ
+abbrev pub parent_of : Option SlotEntry → Option ℕ
 parent_of None = None
 parent_of (Some e) = e.parent
 

@@ -101,12 +101,12 @@ pub fn tighten(blocks: &mut Blocks, store: &Store, roots: &MarkedMap)
 }
 
 /// The place of a root.
-fn place_of(store: &Store, roots: &MarkedMap, root: usize) -> Option<usize>
+fn root_place(store: &Store, roots: &MarkedMap, root: usize) -> Option<usize>
     requires tops { HasRoots (λ c. present_of (at store.now c)) roots.now.list }
     ensures { (place : ℕ) → slice_get (ids roots.now.list) place ≡ Some root → result ≡ Some place }
 {
     let entry = store.get(root)?;
-    let (place, _) = roots.place_of(entry.node.lot())?;
+    let (place, _) = roots.place_and_id(entry.node.lot())?;
     Some(place)
 }
 
@@ -117,7 +117,7 @@ pub fn cover_root(blocks: &mut Blocks, store: &Store, roots: &MarkedMap, changed
     ensures { AreCovered blocks.new roots.now.list (λ c. hulls_of (at store.now c)) }
 {
     if let Some(root) = changed {
-        if let Some(place) = place_of(store, roots, root) {
+        if let Some(place) = root_place(store, roots, root) {
             cover_place(blocks, store, roots, place);
         }
     }

@@ -1,9 +1,9 @@
 //! What an entry keeps for the mark.
-use crate::entry::Entry;
+use crate::slot_entry::SlotEntry;
 use cga_marked::{Marked, Sort};
 use cga_shape::Kind;
 
-impl Marked for Entry {
+impl Marked for SlotEntry {
     ghost use Rattle.cga_forest.specs.View.{IsPlain, aside_of, touched_of, touched_entry, hidden_entry, settled_entry, rolled_entry};
     ghost use Rattle.cga_forest.specs.Count.{entry_counts};
     ghost use Rattle.cga_forest.specs.Marks as entry;

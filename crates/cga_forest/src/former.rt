@@ -1,8 +1,8 @@
-use crate::node::State;
+use crate::node::NodeState;
 
 /// The state and the children of a node as they stood at the mark.
 #[derive(Drop)]
 pub struct Former {
-    pub state: State,
+    pub state: NodeState,
     pub children: Vec<usize>,
 }

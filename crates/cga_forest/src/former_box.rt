@@ -1,7 +1,7 @@
 ghost use Rattle.std.specs.Prelude.{◌≡◌};
 
 use crate::former::Former;
-use crate::node::State;
+use crate::node::NodeState;
 use cga_fraction::NoMemory;
 use std::alloc::Global;
 use std::marker::Model;
@@ -22,7 +22,7 @@ impl Model for FormerBox {
 
 impl FormerBox {
     /// A box with this state and no children in it. Takes memory.
-    pub fn new(alloc: Global, state: State) -> Result<FormerBox, NoMemory> {
+    pub fn new(alloc: Global, state: NodeState) -> Result<FormerBox, NoMemory> {
         let children = Vec::new(alloc);
         Ok(FormerBox {
             inner: Box::new(alloc, Former { state, children })?,

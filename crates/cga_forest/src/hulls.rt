@@ -2,16 +2,16 @@
 ghost use Rattle.std.specs.Prelude.{IsSome, true, ◌≢◌, ◌≡◌, ◌<◌, ℕ, length, slice_get, Some, None, is_some};
 ghost use Rattle.cga_kept_hulls.specs.declared.hulls.Hulls.{Hulls};
 ghost use Rattle.cga_kept_hulls.specs.Hull.{at_hulls, holds_hulls, over, with_hulls};
-ghost use Rattle.cga_forest.specs.declared.due.Due.TheVariants.{Moved};
-ghost use Rattle.cga_forest.specs.declared.entry.Entry.{Entry as Kept};
-ghost use Rattle.cga_forest.specs.Due.{HoldsAll, grown_of};
+ghost use Rattle.cga_forest.specs.declared.hulls_due.HullsDue.TheVariants.{Moved};
+ghost use Rattle.cga_forest.specs.declared.slot_entry.SlotEntry.{SlotEntry as Kept};
+ghost use Rattle.cga_forest.specs.HullsDue.{HoldsAll, grown_of};
 ghost use Rattle.cga_forest.specs.Hull.{own_hulls};
 ghost use Rattle.cga_forest.specs.View.{at, present_of, marked_of, hulls_of, marked_hulls_of};
 ghost use Rattle.cga_forest.specs.Tree.{AllRight, RightBut, IsDue, depth_at, hulls_now, hulls_next, above};
 ghost use Rattle.cga_tree.specs.Tree.{IsTree};
 
-use crate::due::Due;
-use crate::entry::Entry;
+use crate::hulls_due::HullsDue;
+use crate::slot_entry::SlotEntry;
 use crate::slots::parent_at;
 use crate::store::{Store, set_hulls};
 use cga_kept_hulls::{Hulls, Spares};
@@ -57,15 +57,15 @@ fn hulls_at(store: &Store, id: usize) -> Option<Hulls>
 }
 
 /// The hulls that a node gets: its old ones with those of the child that grew, or else from all its children.
-fn next_hulls(store: &Store, id: usize, due: &Due) -> Option<Hulls>
+fn next_hulls(store: &Store, id: usize, due: &HullsDue) -> Option<Hulls>
     ensures { result ≡ hulls_next (λ c. hulls_of (at store.now c)) (at store.now id) (grown_of due.now) }
 {
     match due {
-        Due::Grown(grown) => match store.get(id) {
+        HullsDue::Grown(grown) => match store.get(id) {
             Some(entry) => Some(entry.known_hulls().with(&Some(*grown))),
             None => None,
         },
-        Due::All | Due::Moved(_, _) => hulls_over(store, id),
+        HullsDue::All | HullsDue::Moved(_, _) => hulls_over(store, id),
     }
 }
 
@@ -80,7 +80,7 @@ fn join_at(store: &Store, children: &[usize], place: usize, hulls: &mut Hulls)
 
 /// Whether the hulls of a node and of four of its children hold these: of the first and the last, which often stand
 /// outermost, of the one at a place, and of the next one, whose turn comes later.
-fn some_hold(store: &Store, entry: &Entry, place: usize, old: &Hulls) -> bool
+fn some_hold(store: &Store, entry: &SlotEntry, place: usize, old: &Hulls) -> bool
     ensures { result ≡ true → holds_hulls (over (λ c. hulls_of (at store.now c)) (own_hulls entry.now.node) entry.now.children.items (length entry.now.children.items)) old.now ≡ true }
 {
     let children = entry.children.as_slice();
@@ -97,16 +97,16 @@ fn some_hold(store: &Store, entry: &Entry, place: usize, old: &Hulls) -> bool
 
 /// Whether a node's hulls are right still, though those of one child changed: where they hold the new ones, a few children
 /// tell it mostly, and the others needn't be looked at.
-fn are_kept(store: &Store, id: usize, due: &Due, old: &Hulls) -> bool
+fn are_kept(store: &Store, id: usize, due: &HullsDue, old: &Hulls) -> bool
     ensures { result ≡ true → (place : ℕ) × (k : Hulls) × (due.now ≡ Moved place k) × (holds_hulls old.now k ≡ true) × ((e : Kept) → at store.now id ≡ Some e
         → holds_hulls (over (λ c. hulls_of (at store.now c)) (own_hulls e.node) e.children.items (length e.children.items)) old.now ≡ true) }
 {
     match due {
-        Due::Moved(place, hulls) => match store.get(id) {
+        HullsDue::Moved(place, hulls) => match store.get(id) {
             Some(entry) => old.holds(hulls) && some_hold(store, entry, *place, old),
             None => false,
         },
-        Due::All | Due::Grown(_) => false,
+        HullsDue::All | HullsDue::Grown(_) => false,
     }
 }
 
@@ -134,14 +134,14 @@ fn hold_each(store: &Store, ids: &[usize], hulls: &Hulls) -> bool
 
 /// Whether a node's hulls are right still, though its children are others: where they are those of its own box alone and
 /// hold each child's, as most do.
-fn are_own(store: &Store, id: usize, due: &Due, old: &Hulls) -> bool
+fn are_own(store: &Store, id: usize, due: &HullsDue, old: &Hulls) -> bool
     requires { hulls_of (at store.now id) ≡ Some old.now }
     ensures { result ≡ true → (e : Kept) → at store.now id ≡ Some e
         → (holds_hulls old.now (over (λ c. hulls_of (at store.now c)) (own_hulls e.node) e.children.items (length e.children.items)) ≡ true)
         × (holds_hulls (over (λ c. hulls_of (at store.now c)) (own_hulls e.node) e.children.items (length e.children.items)) old.now ≡ true) }
 {
     match (due, store.get(id)) {
-        (Due::All, Some(entry)) => {
+        (HullsDue::All, Some(entry)) => {
             entry.has_own_hulls() && hold_each(store, entry.children.as_slice(), old)
         }
         _ => false,
@@ -166,7 +166,7 @@ pub fn refresh(
     spares: &mut Spares,
     id: usize,
     marking: bool,
-    due: Due,
+    due: HullsDue,
 ) -> Option<usize>
     requires tree { IsTree (λ c. present_of (at store.old c)) }
     requires here { IsSome (present_of (at store.old id)) }
@@ -190,7 +190,7 @@ pub fn refresh(
         }
         if let Some(new) = next_hulls(store, id, &due) {
             if !new.is_like(&old) {
-                let above = Due::above(&new, &old, place_at(store, id));
+                let above = HullsDue::above(&new, &old, place_at(store, id));
                 set_hulls(store, id, marking, new, spares.take());
                 if let Some(parent) = parent_at(store, id) {
                     return refresh(store, spares, parent, marking, above);

@@ -12,8 +12,6 @@ mod below;
 mod change;
 mod counts;
 mod covering;
-mod due;
-mod entry;
 mod entry_marks;
 mod fitting;
 mod former;
@@ -21,6 +19,7 @@ mod former_box;
 mod holds;
 mod hull_tree;
 mod hulls;
+mod hulls_due;
 mod listing;
 mod lots;
 mod mark;
@@ -31,6 +30,7 @@ mod node;
 mod placing;
 mod plan;
 mod replacement;
+mod slot_entry;
 mod slots;
 mod standing;
 mod store;
@@ -59,7 +59,7 @@ use cga_word::Mode;
 pub use change::Change;
 use covering::cover_root;
 pub use moved::Moved;
-pub use node::{Node, State};
+pub use node::{Node, NodeState};
 use placing::{children_after, kind_after};
 use plan::Plan;
 use replacement::Replacement;
@@ -204,7 +204,7 @@ impl Forest {
         let parent = &self.store.entry(id).node;
         let said = symbols.of(parent.shape.symbol)?;
         let news = children_after(self.alloc, parent, outcome, symbols)?;
-        let state = State {
+        let state = NodeState {
             kind: kind_after(outcome),
             answers,
             asks: said.asks(),
@@ -213,7 +213,12 @@ impl Forest {
     }
 
     /// Gives a node another state and these children.
-    fn replace_with(&mut self, id: usize, state: State, news: Vec<Node>) -> Result<Change, NoMemory>
+    fn replace_with(
+        &mut self,
+        id: usize,
+        state: NodeState,
+        news: Vec<Node>,
+    ) -> Result<Change, NoMemory>
         requires here { HasInner (node_at self.old id) state news.items }
         ensures replaced { OnOk result (Replaces (node_at self.old) (node_at self.new) id state news.items) }
         ensures unmarked { OnOk result ((c : ℕ) → node_at self.old c ≡ None → IsSome (node_at self.new c) → marked_at self.old c ≡ None) }

@@ -1,4 +1,4 @@
-use crate::entry::Entry;
+use crate::slot_entry::SlotEntry;
 use cga_kept_hulls::{Hulls, HullsBox};
 use cga_marked::Change;
 
@@ -9,12 +9,12 @@ pub struct NewHulls {
     pub spare: HullsBox,
 }
 
-impl Change<Entry> for NewHulls {
+impl Change<SlotEntry> for NewHulls {
     ghost use Rattle.cga_forest.specs.View.{IsRehulled};
 
     ghost changes = { λ marking change x y. IsRehulled marking change.hulls x y };
 
-    fn apply(self, marking: bool, entry: &mut Entry) {
+    fn apply(self, marking: bool, entry: &mut SlotEntry) {
         entry.set_hulls(marking, self.hulls, self.spare);
     }
 }

@@ -26,7 +26,7 @@ pub struct Node {
 
 /// What of a node may change while it stays.
 #[derive(Clone, Copy, Debug)]
-pub struct State {
+pub struct NodeState {
     pub kind: Kind,
     pub answers: Answers,
     pub asks: bool,
@@ -97,17 +97,17 @@ impl Node {
         }
     }
 
-    pub fn state(&self) -> State
+    pub fn state(&self) -> NodeState
         ensures { result ≡ state_of self.now }
     {
-        State {
+        NodeState {
             kind: self.kind,
             answers: self.answers,
             asks: self.asks,
         }
     }
 
-    pub fn set_state(&mut self, state: State)
+    pub fn set_state(&mut self, state: NodeState)
         ensures { self.new ≡ with_state state self.old }
     {
         self.kind = state.kind;

@@ -7,8 +7,8 @@ ghost use Rattle.cga_forest.specs.Gathered.{coming, found};
 ghost use Rattle.cga_forest.specs.Moved.{is_listed};
 ghost use Rattle.cga_forest.specs.Numbers.{StaysTaken};
 
-use crate::due::Due;
 use crate::hulls::refresh;
+use crate::hulls_due::HullsDue;
 use crate::listing::list_coming;
 use crate::moved::Moved;
 use crate::node::Node;
@@ -175,5 +175,5 @@ pub fn replace(
     place_children(store, alloc, id, marking, news, &mut made);
     list_coming(store, id, made.as_slice(), &mut plan.came);
     rewrite(store, id, marking, state, made, spare);
-    refresh(store, spares, id, marking, Due::All)
+    refresh(store, spares, id, marking, HullsDue::All)
 }

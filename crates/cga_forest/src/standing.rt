@@ -8,15 +8,15 @@ ghost use Rattle.cga_forest.specs.Tree.{InPlace};
 ghost use Rattle.cga_forest.specs.View.{Seen, at, present_of, seen};
 ghost use Rattle.cga_tree.specs.Tree.{IsTree};
 
-use crate::entry::Entry;
 use crate::node::Node;
+use crate::slot_entry::SlotEntry;
 use crate::store::Store;
 use cga_index::Standing;
 use cga_order::{Chain, Kind, cmp_stamp, same_steps};
 use cga_word::Mode;
 
 /// The entry of a node that is there.
-pub fn present(store: &Store, id: usize) -> Option<&Entry>
+pub fn present(store: &Store, id: usize) -> Option<&SlotEntry>
     ensures { MatchOption result (present_of (at store.now id) ≡ None) (λ e. present_of (at store.now id) ≡ Some (seen e.now)) }
 {
     match store.get(id) {
@@ -64,7 +64,7 @@ fn exists_at(store: &Store, mode: Mode, parent: Option<usize>, by: &Chain) -> bo
 }
 
 /// Whether a node that is there waits at another's stamp.
-fn waits_at(mode: Mode, entry: &Entry, by: &Chain) -> bool
+fn waits_at(mode: Mode, entry: &SlotEntry, by: &Chain) -> bool
     requires own { order.IsWhole (chain_kept entry.now.node) }
     requires by { order.IsWhole (chain_of by.now) }
     ensures { result ≡ waits_at mode (seen entry.now) (chain_of by.now) }

@@ -1,18 +1,18 @@
 ghost use Rattle.std.specs.Prelude.{true, ◌≢◌, ◌≡◌, ◌+◌, ℕ, length, is_some, None, IfOk};
 ghost use Rattle.cga_forest.specs.View.{at, HasRoom, KeepsRoom, IsNewEntry, last_from, flag_if, keeps_former, kids, rewritten, rehulled, present_of, marked_of, hulls_of, marked_hulls_of};
 
-use crate::entry::Entry;
 use crate::former_box::FormerBox;
 use crate::new_content::NewContent;
 use crate::new_hulls::NewHulls;
-use crate::node::{Node, State};
+use crate::node::{Node, NodeState};
+use crate::slot_entry::SlotEntry;
 use cga_fraction::NoMemory;
 use cga_kept_hulls::{Hulls, HullsBox, KeptHulls};
 use cga_marked::MarkedSlab;
 use std::alloc::Global;
 
 /// Entries under numbers, with a list of those that the mark's end has to look at.
-pub type Store = MarkedSlab<Entry>;
+pub type Store = MarkedSlab<SlotEntry>;
 
 /// Adds a node without children, for which there is room.
 pub fn add_node(
@@ -29,7 +29,7 @@ pub fn add_node(
     ensures room { (more : ℕ) → HasRoom store.old (more + 1) → HasRoom store.new more }
 {
     let hulls = KeptHulls::Own(node.asks);
-    let entry = Entry {
+    let entry = SlotEntry {
         node,
         parent,
         children: Vec::new(alloc),
@@ -70,7 +70,7 @@ pub fn spare_for(
     alloc: Global,
     id: usize,
     marking: bool,
-    state: State,
+    state: NodeState,
 ) -> Result<Option<FormerBox>, NoMemory>
     ensures { IfOk result (λ spare. keeps_former marking (at store.now id) ≡ true → is_some spare ≡ true) }
 {
@@ -86,7 +86,7 @@ pub fn rewrite(
     store: &mut Store,
     id: usize,
     marking: bool,
-    state: State,
+    state: NodeState,
     children: Vec<usize>,
     spare: Option<FormerBox>,
 )

@@ -23,10 +23,12 @@ pub use Rattle.cga_form.proofs.OnceBlocks.{once_block, once_lines}
 pub use Rattle.cga_form.proofs.OnceLines.{once_line, once_tokens}
 -- What a reader does on a text: it takes a front of it, and gives the same however the text goes on after the next token
 pub use Rattle.cga_form.proofs.Taking.{pure_runs}
+-- What is chosen of a list of tokens is written as its token
+pub use Rattle.cga_form.proofs.Listed.{chosen_has, chosen_token}
 -- What single tokens stand for, and how they are written
 pub use Rattle.cga_form.proofs.Singles.{a_keyword_is, a_sign_is, as_token, by_token, keyword_token, name_pieces}
 pub use Rattle.cga_form.proofs.Singles.{name_read, name_token, named_is, no_more, number_token, opening, pick}
-pub use Rattle.cga_form.proofs.Singles.{sign_token, whole_token, whole_value, word_is, word_token}
+pub use Rattle.cga_form.proofs.Singles.{sign_token, whole_token, word_is, word_token}
 -- A text that spells a member of a form, with few enough brackets, is told by it
 pub use Rattle.cga_form.proofs.Told.{form_told}
 -- Values are read exactly, and again as they are written

@@ -5,6 +5,7 @@ mod Forms
 mod Beginnings
 mod Again
 mod Singles
+mod Listed
 mod Complete
 mod Lines
 mod Nexts

@@ -26,13 +26,13 @@ from_or end None = end
 from_or end (Some t) = t.from
 
 -- the place of the first of the last so many tokens, or the end of the line
-abbrev pub place_of : ℕ → List Token → ℕ → ℕ
-place_of end tokens left = from_or end (slice_get tokens (length tokens - left))
+abbrev pub token_place : ℕ → List Token → ℕ → ℕ
+token_place end tokens left = from_or end (slice_get tokens (length tokens - left))
 
 -- a fault at its place
 abbrev pub placed : ℕ → List Token → Fault → LineFault
-placed end tokens (Unexpected left) = line.Unexpected (place_of end tokens left)
-placed end tokens (TooNested left) = line.TooNested (place_of end tokens left)
+placed end tokens (Unexpected left) = line.Unexpected (token_place end tokens left)
+placed end tokens (TooNested left) = line.TooNested (token_place end tokens left)
 
 -- what is told with the place of its fault
 abbrev pub with_place : {A : Type 0} → ℕ → List Token → Result A Fault → Result A LineFault

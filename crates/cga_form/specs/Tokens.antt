@@ -1,5 +1,5 @@
 -- What single tokens stand for.
-use Rattle.std.specs.Prelude.{ℕ, zero, suc, ◌&&◌, ◌==◌, nat_le, ℤ, pos, negsuc, Bool, true, false, List, Option, Some, None}
+use Rattle.std.specs.Prelude.{ℕ, zero, suc, ◌&&◌, ◌==◌, nat_le, ℤ, pos, negsuc, Bool, true, false, List, [], ◌∷◌, map, Option, Some, None, if◌then◌else◌}
 use Rattle.cga_fraction.specs.Rat.{Rat}
 use Rattle.cga_lexer.specs.declared.sign.Sign.{Sign}
 use Rattle.cga_lexer.specs.declared.sign.Sign.TheVariants as s
@@ -8,6 +8,8 @@ use Rattle.cga_syntax.specs.declared.keyword.Keyword.{Keyword}
 use Rattle.cga_syntax.specs.declared.keyword.Keyword.TheVariants as k
 use Rattle.cga_syntax.specs.declared.lexeme.Lexeme.{Lexeme}
 use Rattle.cga_syntax.specs.declared.lexeme.Lexeme.TheVariants as lexeme
+use Rattle.cga_form.specs.declared.chosen.Kind.{Kind}
+use Rattle.cga_form.specs.declared.chosen.Kind.TheVariants as kind
 
 -- ---- signs and keywords
 
@@ -125,3 +127,33 @@ a_whole low high _ = None
 abbrev pub a_number : Lexeme → Option Rat
 a_number (lexeme.Number value) = Some value
 a_number _ = None
+
+-- ---- tokens that stand in lists
+
+-- both are the same number
+abbrev pub same_whole : Option ℕ → Option ℕ → Bool
+same_whole (Some n) (Some m) = m == n
+same_whole _ _ = false
+
+-- the second token is the first one, which is no relative number; of numbers, the same whole one
+abbrev pub same : Lexeme → Lexeme → Bool
+same (lexeme.Sign x) l = is_sign x l
+same (lexeme.Keyword x) l = is_keyword x l
+same (lexeme.Name bytes) l = is_word bytes l
+same (lexeme.Text bytes) (lexeme.Text name) = is name bytes
+same (lexeme.Number v) (lexeme.Number w) = same_whole (whole_of v) (whole_of w)
+same _ _ = false
+
+-- some values, each beside its token
+abbrev pub beside : {A : Type 0} → (A → Lexeme) → List A → List (Lexeme × A)
+beside code all = map (λ a. (code a, a)) all
+
+-- the value beside the first token of a list that is the same
+abbrev pub chosen : {A : Type 0} → List (Lexeme × A) → Lexeme → Option A
+chosen [] l = None
+chosen (w ∷ more) l = if same w.0 l then Some w.1 else chosen more l
+
+-- a token of such a list by its kind and bytes
+abbrev pub token_of : Kind → List ℕ → Lexeme
+token_of kind.Name bytes = lexeme.Name bytes
+token_of kind.Text bytes = lexeme.Text bytes

@@ -9,6 +9,7 @@
 pub mod block_fault;
 pub mod block_line;
 pub mod block_reader;
+pub mod chosen;
 pub mod fault;
 pub mod form;
 pub mod gather;

@@ -5,6 +5,7 @@ ghost use Rattle.cga_form.specs.Tokens as spec;
 ghost use Rattle.cga_form.specs.Limits.{last_seed};
 ghost use Rattle.cga_form.specs.Parts as parts;
 ghost use Rattle.cga_form.specs.Words as words;
+ghost use Rattle.cga_syntax.specs.declared.lexeme.Lexeme.TheVariants as lexeme;
 ghost use Rattle.cga_syntax.specs.Limits.{last_edge, last_priority};
 
 use crate::limits::LAST_SEED;
@@ -135,7 +136,7 @@ pub fn turn(next: Option<Lexeme>) -> Option<Turn>
 }
 
 fn turn_of(value: Fraction) -> Option<Turn>
-    ensures { result ≡ words.turned_by (spec.whole_of value) }
+    ensures { result ≡ words.a_turn (lexeme.Number value) }
 {
     match whole_of(value)? {
         0 => Some(Turn::By0),
@@ -156,7 +157,7 @@ pub fn ninety(next: Option<Lexeme>) -> Option<()>
 }
 
 fn ninety_of(value: Fraction) -> Option<()>
-    ensures { result ≡ words.ninety_by (spec.whole_of value) }
+    ensures { result ≡ words.a_ninety (lexeme.Number value) }
 {
     if whole_of(value)? == 90 {
         Some(())

@@ -1,6 +1,6 @@
 //! Where the faults of a line are. Places count from 1.
 ghost use Rattle.std.specs.Prelude.{◌≡◌};
-ghost use Rattle.cga_form.specs.LineTells.{lexed, placed, place_of};
+ghost use Rattle.cga_form.specs.LineTells.{lexed, placed, token_place};
 
 use crate::fault::Fault;
 use crate::line_fault::LineFault;
@@ -30,7 +30,7 @@ pub fn at_place(fault: Fault, end: u32, tokens: &[Token]) -> LineFault
 
 /// The place of the first of the last so many tokens, or the end of the line.
 fn place(end: u32, tokens: &[Token], left: usize) -> u32
-    ensures { result ≡ place_of end tokens.now left }
+    ensures { result ≡ token_place end tokens.now left }
 {
     match tokens.get(tokens.len().saturating_sub(left)) {
         Some(token) => token.from,

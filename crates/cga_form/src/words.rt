@@ -6,7 +6,9 @@ ghost use Rattle.cga_form.specs.Tokens as spec;
 ghost use Rattle.cga_form.specs.Parts.{a_word};
 ghost use Rattle.cga_form.specs.Words as words;
 ghost use Rattle.cga_syntax.specs.Lexemes.{is};
+ghost use Rattle.cga_syntax.specs.declared.lexeme.Lexeme.TheVariants as lexeme;
 
+use crate::chosen::{Kind, chosen};
 use crate::heads::{ItemHead, PrimaryHead, ScopeWord};
 use cga_lexer::Sign;
 use cga_syntax::{Keyword, Lexeme, Relation};
@@ -58,7 +60,7 @@ pub fn primary_head(next: Option<Lexeme>) -> Option<PrimaryHead>
 }
 
 fn primary_keyword(keyword: Keyword) -> Option<PrimaryHead>
-    ensures { result ≡ words.primary_keyword keyword }
+    ensures { result ≡ words.primary_head (lexeme.Keyword keyword) }
 {
     match keyword {
         Keyword::Scope => Some(PrimaryHead::Scope),
@@ -91,45 +93,23 @@ pub fn scaling(next: Option<Lexeme>) -> Option<bool>
 pub fn size_axis(next: Option<Lexeme>) -> Option<Axis>
     ensures { result ≡ decoded words.size_axis next }
 {
-    match next? {
-        Lexeme::Name(name) => size_axis_of(name),
-        _ => None,
-    }
-}
-
-fn size_axis_of(name: Name) -> Option<Axis>
-    ensures { result ≡ words.size_axis_of name }
-{
-    if is(name, b"sx") {
-        Some(Axis::X)
-    } else if is(name, b"sy") {
-        Some(Axis::Y)
-    } else if is(name, b"sz") {
-        Some(Axis::Z)
-    } else {
-        None
-    }
+    chosen(
+        next,
+        Kind::Name,
+        &[(b"sx", Axis::X), (b"sy", Axis::Y), (b"sz", Axis::Z)],
+    )
 }
 
 pub fn relation(next: Option<Lexeme>) -> Option<Relation>
     ensures { result ≡ decoded words.a_relation next }
 {
-    match next? {
-        Lexeme::Sign(sign) => relation_of(sign),
-        _ => None,
-    }
-}
-
-fn relation_of(sign: Sign) -> Option<Relation>
-    ensures { result ≡ words.relation_of sign }
-{
-    match sign {
-        Sign::Equal => Some(Relation::Equal),
-        Sign::Unequal => Some(Relation::Unequal),
-        Sign::Less => Some(Relation::Less),
-        Sign::AtMost => Some(Relation::AtMost),
-        Sign::Greater => Some(Relation::Greater),
-        Sign::AtLeast => Some(Relation::AtLeast),
+    match next {
+        Some(Lexeme::Sign(Sign::Equal)) => Some(Relation::Equal),
+        Some(Lexeme::Sign(Sign::Unequal)) => Some(Relation::Unequal),
+        Some(Lexeme::Sign(Sign::Less)) => Some(Relation::Less),
+        Some(Lexeme::Sign(Sign::AtMost)) => Some(Relation::AtMost),
+        Some(Lexeme::Sign(Sign::Greater)) => Some(Relation::Greater),
+        Some(Lexeme::Sign(Sign::AtLeast)) => Some(Relation::AtLeast),
         _ => None,
     }
 }
@@ -147,26 +127,16 @@ pub fn equality(next: Option<Lexeme>) -> Option<bool>
 pub fn scope_word(next: Option<Lexeme>) -> Option<ScopeWord>
     ensures { result ≡ decoded words.a_scope_word next }
 {
-    match next? {
-        Lexeme::Name(name) => scope_word_of(name),
-        _ => None,
-    }
-}
-
-fn scope_word_of(name: Name) -> Option<ScopeWord>
-    ensures { result ≡ words.scope_word_of name }
-{
-    if is(name, b"occ") {
-        Some(ScopeWord::Occ)
-    } else if is(name, b"sx") {
-        Some(ScopeWord::Size(Axis::X))
-    } else if is(name, b"sy") {
-        Some(ScopeWord::Size(Axis::Y))
-    } else if is(name, b"sz") {
-        Some(ScopeWord::Size(Axis::Z))
-    } else {
-        None
-    }
+    chosen(
+        next,
+        Kind::Name,
+        &[
+            (b"occ", ScopeWord::Occ),
+            (b"sx", ScopeWord::Size(Axis::X)),
+            (b"sy", ScopeWord::Size(Axis::Y)),
+            (b"sz", ScopeWord::Size(Axis::Z)),
+        ],
+    )
 }
 
 pub fn item_head(next: Option<Lexeme>) -> Option<ItemHead>
@@ -181,7 +151,7 @@ pub fn item_head(next: Option<Lexeme>) -> Option<ItemHead>
 }
 
 fn item_keyword(keyword: Keyword) -> Option<ItemHead>
-    ensures { result ≡ words.item_keyword keyword }
+    ensures { result ≡ words.item_head (lexeme.Keyword keyword) }
 {
     match keyword {
         Keyword::T => Some(ItemHead::Move),

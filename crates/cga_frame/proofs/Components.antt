@@ -8,7 +8,7 @@ use Rattle.cga_word.specs.declared.axis.Axis.{Axis}
 use Rattle.cga_word.specs.declared.axis.Axis.TheVariants.{X, Y, Z}
 use Rattle.cga_frame.specs.Axes.{Frame, along, differ, flipped, turn_of, turned, within}
 use Rattle.cga_frame.specs.Points.{coordinate, InRange}
-use Rattle.cga_frame.specs.Scope.{Scope, moved, moved_along, place_of, far_of, has_negative, Exists}
+use Rattle.cga_frame.specs.Scope.{Scope, moved, moved_along, world_point, far_of, has_negative, Exists}
 use Rattle.cga_frame.specs.Standing.{IsStanding}
 use Rattle.cga_frame.specs.Component.{component_of, corner, end_of, ended, extent, is_high, size_by, FitsAlong, IsFitting}
 use Rattle.cga_frame.specs.declared.point.Point.{Point}
@@ -77,7 +77,7 @@ far_parts : (s : Scope)
       z =
           moved_along s.frame.z s.at.z s.size;
     }
-unfolding place_of
+unfolding world_point
 far_parts s = refl
 
 -- the corner at which a component begins, of which the scope's far corner is handed in
@@ -90,7 +90,7 @@ ends_of s c far = record { x = end_of c s.frame.x (turned s.frame c.axis c.by).x
 
 pub component_far : (s : Scope) (c : Component) → IsFitting c → Exists s
     → ends_of s c (far_of s) ≡ far_of (component_of s c)
-unfolding component_of place_of turned
+unfolding component_of world_point turned
 component_far s c h e =
     let p = ap (λ (p : Point). p.x) (far_parts s) in
     same_point _ _ _ _ _ _

@@ -8,7 +8,7 @@ use Rattle.cga_fraction.proofs.Door.{IsLowest, fraction_lowest, le_trans, max_ab
 use Rattle.cga_word.specs.declared.axis.Axis.{Axis}
 use Rattle.cga_word.specs.declared.axis.Axis.TheVariants.{X, Y, Z}
 use Rattle.cga_frame.specs.Points.{coordinate}
-use Rattle.cga_frame.specs.Scope.{Scope, moved, place_of, Exists}
+use Rattle.cga_frame.specs.Scope.{Scope, moved, world_point, Exists}
 use Rattle.cga_frame.specs.Box.{box_of}
 use Rattle.cga_frame.specs.Meeting.{IsBetween, IsIn}
 use Rattle.cga_frame.specs.Inside.{IsUpTo, IsLocal}
@@ -40,8 +40,8 @@ local_at local size h Y = h.y
 local_at local size h Z = h.z
 
 pub inside : (s : Scope) (local : Point) → Exists s → IsLocal local s.size
-    → IsIn (place_of s.at s.frame local) (box_of s)
-unfolding place_of
+    → IsIn (world_point s.at s.frame local) (box_of s)
+unfolding world_point
 inside s local e h = record {
   x = between_at s.frame.x.against s.at.x (coordinate local s.frame.x.axis) (coordinate s.size s.frame.x.axis) (fraction_lowest s.at.x e.at.x) (local_at local s.size h s.frame.x.axis);
   y = between_at s.frame.y.against s.at.y (coordinate local s.frame.y.axis) (coordinate s.size s.frame.y.axis) (fraction_lowest s.at.y e.at.y) (local_at local s.size h s.frame.y.axis);

@@ -12,7 +12,7 @@ use Rattle.cga_frame.specs.Axes.{Frame, same_axis}
 use Rattle.cga_frame.specs.Points.{checked_point, point_in_range, with_coordinate, InRange}
 use Rattle.cga_fraction.specs.Results.{or_err}
 use Rattle.cga_frame.specs.declared.scope_fault.ScopeFault.TheVariants as fault
-use Rattle.cga_frame.specs.Scope.{Scope, place_of, joined, far_of, exists, existing, Exists, scope_of, has_negative, stepped, step_of, translated, part_of}
+use Rattle.cga_frame.specs.Scope.{Scope, world_point, joined, far_of, exists, existing, Exists, scope_of, has_negative, stepped, step_of, translated, part_of}
 use Rattle.cga_frame.specs.declared.point.Point.{Point}
 use Rattle.cga_frame.specs.declared.signed.Signed.{Signed}
 use Rattle.std.proofs.lemmas.Bool.{and_left as out_first, and_right as out_at}
@@ -126,9 +126,9 @@ stay along axis from by e f = rw e (sym (checked_in_range from (fraction_in_rang
 -- ---- scopes that were made of others
 
 pub translated_is : (s : Scope) (by at : Point) (f : Frame) (z : Point) (r : Result Scope Overflow) → f ≡ s.frame
-    → z ≡ s.size → Ok at ≡ checked_point (place_of s.at s.frame by)
+    → z ≡ s.size → Ok at ≡ checked_point (world_point s.at s.frame by)
     → r ≡ existing (record { at = at; frame = f; size = z }) → r ≡ existing (translated s by)
-translated_is s by at f z r e g h k = rw (k, e, g, ← (point_is (place_of s.at s.frame by) at (sym h)).0) refl
+translated_is s by at f z r e g h k = rw (k, e, g, ← (point_is (world_point s.at s.frame by) at (sym h)).0) refl
 
 pub part_is : (s : Scope) (axis : Axis) (from length : Rat) (at : Point) (f : Frame) (z : Point)
     (r : Result Scope Overflow)

@@ -35,12 +35,12 @@ joined (Ok x) (Ok y) (Ok z) = Ok (record { x = x; y = y; z = z })
 joined a b c = Err (record {})
 
 -- the world point of local coordinates
-unfoldable pub place_of : Point → Frame → Point → Point
-place_of at frame local = record { x = moved_along frame.x at.x local; y = moved_along frame.y at.y local; z = moved_along frame.z at.z local }
+unfoldable pub world_point : Point → Frame → Point → Point
+world_point at frame local = record { x = moved_along frame.x at.x local; y = moved_along frame.y at.y local; z = moved_along frame.z at.z local }
 
 -- the corner opposite to the position
 abbrev pub far_of : Scope → Point
-far_of s = place_of s.at s.frame s.size
+far_of s = world_point s.at s.frame s.size
 
 -- whether all coordinates of the scope's box are in range
 abbrev pub exists : Scope → Bool
@@ -64,7 +64,7 @@ scope_of at frame size = if has_negative size then Err NegativeSize else or_err 
 
 -- moved along the scope's own axes
 abbrev pub translated : Scope → Point → Scope
-translated s by = record s { at = place_of s.at s.frame by }
+translated s by = record s { at = world_point s.at s.frame by }
 
 abbrev pub turned_scope : Scope → Axis → Turn → Scope
 turned_scope s axis by = record s { frame = turned s.frame axis by }

@@ -3,7 +3,7 @@ ghost use Rattle.cga_fraction.specs.Rat.{IsFraction};
 ghost use Rattle.cga_fraction.specs.Refusals.{checked};
 ghost use Rattle.cga_frame.specs.Points.{checked_point, InRange};
 ghost use Rattle.cga_frame.specs.Component.{size_by};
-ghost use Rattle.cga_frame.specs.Scope.{has_negative, joined, moved_along, place_of, stepped};
+ghost use Rattle.cga_frame.specs.Scope.{has_negative, joined, moved_along, world_point, stepped};
 
 use crate::component::Component;
 use crate::frame::Frame;
@@ -206,7 +206,7 @@ impl Scope {
 
     /// The world point of local coordinates.
     pub fn place(&self, local: Point) -> Result<Point, Overflow>
-        ensures { result ≡ checked_point (place_of self.now.at self.now.frame local) }
+        ensures { result ≡ checked_point (world_point self.now.at self.now.frame local) }
     {
         placed(&self.at, &self.frame, &local)
     }
@@ -279,7 +279,7 @@ fn has_negative(size: &Point) -> bool
 
 // The world point of local coordinates.
 fn placed(at: &Point, frame: &Frame, local: &Point) -> Result<Point, Overflow>
-    ensures value { result ≡ checked_point (place_of at.now frame.now local.now) }
+    ensures value { result ≡ checked_point (world_point at.now frame.now local.now) }
     ensures at { InRange at.now }
     ensures in_range { IfOk result InRange }
 {

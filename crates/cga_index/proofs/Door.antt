@@ -8,8 +8,8 @@ pub use Rattle.cga_index.proofs.Levels.{below_more, root_in}
 pub use Rattle.cga_index.proofs.Local.{in_present, present_in}
 -- A tree in which only those nodes ask that last has the same nodes, and keeps the laws
 pub use Rattle.cga_index.proofs.LastingTree.{in_lasting, in_whole, lasting_laws}
--- A walk comes to each node once; who asks, each once
-pub use Rattle.cga_index.proofs.Askers.{all_once, apart_flat, apart_join}
+-- A walk comes to each node once; who asks, each once, and what is filtered
+pub use Rattle.cga_index.proofs.Askers.{all_once, apart_flat, apart_join, caller_in}
 -- Members of a list by their places
 pub use Rattle.cga_index.proofs.NearAskers.{member_at}
 -- Answers of lists that are joined

@@ -51,6 +51,7 @@ fn list_from<H: HullTree, T: Ledger>(
     left: usize,
     area: &WorldBox,
     tests: &mut Tests<T>,
+    looked: &mut usize,
     out: &mut Vec<NodeId>,
 ) -> Result<(), NoMemory>
     requires laws { IsHullTree (H.view tree.now) }
@@ -62,7 +63,7 @@ fn list_from<H: HullTree, T: Ledger>(
         return Ok(());
     }
     list_one(tree, node, area, tests, out)?;
-    list_children(tree, node, left - 1, area, tests, out)?;
+    list_children(tree, node, left - 1, area, tests, looked, out)?;
     Ok(())
 }
 
@@ -74,6 +75,7 @@ fn list_children<H: HullTree, T: Ledger>(
     left: usize,
     area: &WorldBox,
     tests: &mut Tests<T>,
+    looked: &mut usize,
     out: &mut Vec<NodeId>,
 ) -> Result<(), NoMemory>
     requires laws { IsHullTree (H.view tree.now) }
@@ -81,9 +83,11 @@ fn list_children<H: HullTree, T: Ledger>(
     requires left { left + (H.view tree.now).depth node ≡ MOST_DEPTH }
     ensures { OnOk result (out.new.items ≡ out.old.items ++ askers (H.view tree.now) area.now (flat_map (below (H.view tree.now) left) ((H.view tree.now).children node))) }
 {
-    for place in 0..tree.children(node) {
+    let children = tree.children(node);
+    *looked = looked.saturating_add(children);
+    for place in 0..children {
         let child = child_of(tree, node, place);
-        list_from(tree, child, left, area, tests, out)?;
+        list_from(tree, child, left, area, tests, looked, out)?;
     }
     Ok(())
 }
@@ -94,6 +98,7 @@ fn list_block<H: HullTree, T: Ledger>(
     block: usize,
     area: &WorldBox,
     tests: &mut Tests<T>,
+    looked: &mut usize,
     out: &mut Vec<NodeId>,
 ) -> Result<(), NoMemory>
     requires laws { IsHullTree (H.view tree.now) }
@@ -107,7 +112,7 @@ fn list_block<H: HullTree, T: Ledger>(
     let from = BLOCK * block;
     for place in from..block_end(from, roots) {
         let root = root_of(tree, place);
-        list_from(tree, root, LEVELS, area, tests, out)?;
+        list_from(tree, root, LEVELS, area, tests, looked, out)?;
     }
     Ok(())
 }
@@ -118,6 +123,7 @@ fn list_group<H: HullTree, T: Ledger>(
     group: usize,
     area: &WorldBox,
     tests: &mut Tests<T>,
+    looked: &mut usize,
     out: &mut Vec<NodeId>,
 ) -> Result<(), NoMemory>
     requires laws { IsHullTree (H.view tree.now) }
@@ -130,7 +136,7 @@ fn list_group<H: HullTree, T: Ledger>(
     let blocks = tree.roots() / BLOCK + 1;
     let from = BLOCK * group;
     for block in from..block_end(from, blocks) {
-        list_block(tree, block, area, tests, out)?;
+        list_block(tree, block, area, tests, looked, out)?;
     }
     Ok(())
 }
@@ -141,13 +147,14 @@ pub fn queriers_meeting<H: HullTree, T: Ledger>(
     tree: &H,
     area: &WorldBox,
     tests: &mut Tests<T>,
+    looked: &mut usize,
 ) -> Result<List<NodeId>, NoMemory>
     requires laws { IsHullTree (H.view tree.now) }
     ensures { IfOk result (λ list. ListsAskers (H.view tree.now) area.now list) }
 {
     let mut out = Vec::new(alloc);
     for group in 0..tree.roots() / GROUP + 1 {
-        list_group(tree, group, area, tests, &mut out)?;
+        list_group(tree, group, area, tests, looked, &mut out)?;
     }
     Ok(List::from_vec(out))
 }

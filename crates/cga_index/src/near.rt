@@ -23,6 +23,7 @@ pub fn queriers_near<H: HullTree, T: Ledger>(
     tree: &H,
     areas: &[WorldBox],
     tests: &mut Tests<T>,
+    looked: &mut usize,
 ) -> Result<List<NodeId>, NoMemory>
     requires laws { IsHullTree (H.view tree.now) }
     ensures { IfOk result (ListsNear (H.view tree.now) areas.now) }
@@ -31,7 +32,7 @@ pub fn queriers_near<H: HullTree, T: Ledger>(
     let mut rest = areas;
     while !rest.is_empty() {
         let (piece, others) = rest.split_at(rest.len().min(PIECE));
-        add_near(alloc, tree, piece, tests, &mut near)?;
+        add_near(alloc, tree, piece, tests, looked, &mut near)?;
         rest = others;
     }
     Ok(List::from_vec(near))
@@ -43,17 +44,18 @@ fn add_near<H: HullTree, T: Ledger>(
     tree: &H,
     areas: &[WorldBox],
     tests: &mut Tests<T>,
+    looked: &mut usize,
     near: &mut Vec<NodeId>,
 ) -> Result<(), NoMemory>
     requires laws { IsHullTree (H.view tree.now) }
     ensures { OnOk result (AddsThese (AsksNear (H.view tree.now) areas.now) near.old.items near.new.items) }
 {
     if let Some(around) = box_around(areas) {
-        add_within(alloc, tree, &around, areas, tests, near)?;
+        add_within(alloc, tree, &around, areas, tests, looked, near)?;
         return Ok(());
     }
     for area in areas {
-        add_within(alloc, tree, area, areas, tests, near)?;
+        add_within(alloc, tree, area, areas, tests, looked, near)?;
     }
     Ok(())
 }
@@ -65,12 +67,13 @@ fn add_within<H: HullTree, T: Ledger>(
     around: &WorldBox,
     areas: &[WorldBox],
     tests: &mut Tests<T>,
+    looked: &mut usize,
     near: &mut Vec<NodeId>,
 ) -> Result<(), NoMemory>
     requires laws { IsHullTree (H.view tree.now) }
     ensures { OnOk result (AddsThese (AsksWithin (H.view tree.now) around.now areas.now) near.old.items near.new.items) }
 {
-    let askers = queriers_meeting(alloc, tree, around, tests)?;
+    let askers = queriers_meeting(alloc, tree, around, tests, looked)?;
     for id in askers.as_slice() {
         let own = tree.own_box(*id, tests);
         if meets_one(&own, areas) {

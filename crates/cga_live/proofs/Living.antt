@@ -2,7 +2,7 @@
 use Rattle.std.proofs.Common.{◌≡◌, ◌∙◌, ℕ, List, [], ◌∷◌, ◌++◌, Option, refl, ap, subst}
 use Rattle.std.specs.Prelude.{IfSome}
 use Rattle.std.specs.Io.KnownBytes.{Appends}
-use Rattle.cga_delta.specs.Text.{delta_text_of}
+use Rattle.cga_obj.specs.Delta.{delta_text_of}
 use Rattle.cga_script.specs.Lines.{Line}
 use Rattle.cga_top.proofs.Door.{known_more, none_means, of_left, output_is}
 use Rattle.cga_top.specs.Outside.{Outside}

@@ -2,7 +2,7 @@
 use Rattle.std.specs.Prelude.{◌≡◌, ℕ, ◌+◌, ◌-◌, List, [], ◌∷◌, ◌++◌, take, Bool, count_by}
 use Rattle.cga_bill.specs.Bill.{Balances}
 use Rattle.cga_city.specs.Lots.{names_of}
-use Rattle.cga_delta.specs.Text.{delta_text_of}
+use Rattle.cga_obj.specs.Delta.{delta_text_of}
 use Rattle.cga_shape.specs.declared.drawn.Drawn.{Drawn}
 use Rattle.cga_top.specs.Changed.{HasChanged}
 use Rattle.cga_top.specs.Output.{output_of}

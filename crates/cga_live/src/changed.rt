@@ -1,8 +1,8 @@
 //! What is told of a line's changes.
-ghost use Rattle.cga_delta.specs.Text.{delta_text_of};
+ghost use Rattle.cga_obj.specs.Delta.{delta_text_of};
 
-use cga_delta::delta_text;
 use cga_fraction::{List, NoMemory};
+use cga_obj::delta_text;
 use cga_shape::Changes;
 use cga_top::Talker;
 use std::alloc::Global;
@@ -17,6 +17,6 @@ impl Talker for Changed {
         delta_text(alloc, changes)
     }
 
-    #[tactic(auto, unfolding(cga_delta::specs::Text::delta_text_of))]
+    #[tactic(auto, unfolding(cga_obj::specs::Delta::delta_text_of))]
     fn tells_changes() {}
 }

@@ -58,7 +58,7 @@ impl MarkedMap {
     }
 
     /// The place of a name, and its id.
-    pub fn place_of(&self, name: Name) -> Option<(usize, usize)>
+    pub fn place_and_id(&self, name: Name) -> Option<(usize, usize)>
         ensures id { option_map (λ p. p.1) result ≡ id_under self.now.list name }
         ensures place { IfSome result (λ p. slice_get self.now.list p.0 ≡ Some (name, p.1)) }
     {
@@ -78,7 +78,7 @@ impl MarkedMap {
     pub fn find(&self, name: Name) -> Option<usize>
         ensures { result ≡ id_under self.now.list name }
     {
-        let (_, id) = self.place_of(name)?;
+        let (_, id) = self.place_and_id(name)?;
         Some(id)
     }
 
@@ -123,7 +123,7 @@ impl MarkedMap {
         ensures apart { AreApart self.new.list }
     {
         let _entries = self.map.len(); // for the proof
-        match self.place_of(name) {
+        match self.place_and_id(name) {
             Some((place, id)) => {
                 self.shown -= 1;
                 self.map.swap_indices(place, self.shown);

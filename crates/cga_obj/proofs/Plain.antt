@@ -7,7 +7,7 @@ use Rattle.cga_fraction.specs.Texts.{decimal_text_of}
 use Rattle.cga_fraction.proofs.Door.{and_then-ok, err_if-ok, same_Ok}
 use Rattle.cga_word.specs.declared.primitive.Primitive.{Primitive}
 use Rattle.cga_word.specs.declared.primitive.Primitive.TheVariants as primitive
-use Rattle.cga_frame.specs.Scope.{Scope, place_of}
+use Rattle.cga_frame.specs.Scope.{Scope, world_point}
 use Rattle.cga_frame.specs.declared.point.Point.{Point}
 use Rattle.cga_solid.specs.Corners.{corners_of}
 use Rattle.cga_solid.specs.Faces.{faces_of, four}
@@ -108,7 +108,7 @@ module _ (before : ℕ) (a b c d : List ℕ)
 
 -- ---- meshes
 
-all_placed_is : (s : Scope) (cs vs : List Point) → all_placed s cs ≡ Ok vs → map (place_of s.at s.frame) cs ≡ vs
+all_placed_is : (s : Scope) (cs vs : List Point) → all_placed s cs ≡ Ok vs → map (world_point s.at s.frame) cs ≡ vs
 all_placed_is s [] vs h = same_Ok [] vs h
 all_placed_is s (c ∷ cs) vs h =
     let a = and_then-ok (placed s c) _ vs h in
@@ -116,7 +116,7 @@ all_placed_is s (c ∷ cs) vs h =
     rw (placed_is s c a.0 a.1, all_placed_is s cs b.0 b.1) (same_Ok (a.0 ∷ b.0) vs b.2)
 
 spanned : (s : Scope) (along : Span × Span × Span) (cs : List Corner) → AreSpans s along.0 along.1 along.2
-    → map (place_of s.at s.frame) (map (corner_in s.size) cs) ≡ map (point_at along.0 along.1 along.2) cs
+    → map (world_point s.at s.frame) (map (corner_in s.size) cs) ≡ map (point_at along.0 along.1 along.2) cs
 spanned s along [] h = refl
 spanned s along (c ∷ cs) h = rw (h c, spanned s along cs h) refl
 
@@ -138,7 +138,7 @@ unfolding corners_of faces_of
 cube_is s along ok h =
     let made = made_of (mesh_of primitive.Cube s) ok in
     let parts = parts_of primitive.Cube s made.0 made.1 in
-    let at : map (place_of s.at s.frame) (map (corner_in s.size) cube_corners) ≡ parts.0 = all_placed_is s (map (corner_in s.size) cube_corners) parts.0 parts.1 in
+    let at : map (world_point s.at s.frame) (map (corner_in s.size) cube_corners) ≡ parts.0 = all_placed_is s (map (corner_in s.size) cube_corners) parts.0 parts.1 in
     ap mesh_or_none made.1 ∙ sym parts.2 ∙ ap (mesh_in (form_of primitive.Cube s.size)) (sym at ∙ spanned s along cube_corners h)
 
 pub quad_is : (s : Scope) (along : Span × Span × Span) → IsOk (check_solid_of primitive.Quad s)
@@ -148,7 +148,7 @@ unfolding corners_of faces_of
 quad_is s along ok h =
     let made = made_of (mesh_of primitive.Quad s) ok in
     let parts = parts_of primitive.Quad s made.0 made.1 in
-    let at : map (place_of s.at s.frame) (map (corner_in s.size) quad_corners) ≡ parts.0 = all_placed_is s (map (corner_in s.size) quad_corners) parts.0 parts.1 in
+    let at : map (world_point s.at s.frame) (map (corner_in s.size) quad_corners) ≡ parts.0 = all_placed_is s (map (corner_in s.size) quad_corners) parts.0 parts.1 in
     ap mesh_or_none made.1 ∙ sym parts.2 ∙ ap (mesh_in (form_of primitive.Quad s.size)) (sym at ∙ spanned s along quad_corners h)
 
 -- so the lines of its vertices and of its faces are those of its mesh

@@ -7,7 +7,7 @@ use Rattle.cga_fraction.proofs.Door.{fraction_lowest, minus-zero, plus-zero, sam
 use Rattle.cga_word.specs.declared.axis.Axis.{Axis}
 use Rattle.cga_word.specs.declared.axis.Axis.TheVariants.{X, Y, Z}
 use Rattle.cga_frame.specs.Points.{checked_point, coordinate, point_in_range}
-use Rattle.cga_frame.specs.Scope.{Exists, Scope, moved, place_of}
+use Rattle.cga_frame.specs.Scope.{Exists, Scope, moved, world_point}
 use Rattle.cga_frame.specs.declared.point.Point.{Point}
 use Rattle.cga_obj.specs.Boxes.{AreSpans, IsFarOf, corner_in, end_of, is_far, local_point}
 use Rattle.cga_obj.specs.declared.corner.Corner.{Corner}
@@ -41,13 +41,13 @@ at_one false false p q far e f = refl
 
 -- the neighbours of the near corner
 abbrev next_x : Scope → Point
-next_x s = place_of s.at s.frame (local_point s.size.x zero_rat zero_rat)
+next_x s = world_point s.at s.frame (local_point s.size.x zero_rat zero_rat)
 
 abbrev next_y : Scope → Point
-next_y s = place_of s.at s.frame (local_point zero_rat s.size.y zero_rat)
+next_y s = world_point s.at s.frame (local_point zero_rat s.size.y zero_rat)
 
 abbrev next_z : Scope → Point
-next_z s = place_of s.at s.frame (local_point zero_rat zero_rat s.size.z)
+next_z s = world_point s.at s.frame (local_point zero_rat zero_rat s.size.z)
 
 -- a coordinate of a neighbour, from the near corner's
 abbrev step : Bool → Rat → Axis → Point → Rat
@@ -76,7 +76,7 @@ spans_at : (s : Scope) (x y z : Span) → Exists s → x.near ≡ s.at.x → y.n
     → IsFarOf y.axis s.at.y (next_x s).y (next_y s).y (next_z s).y y.far
     → IsFarOf z.axis s.at.z (next_x s).z (next_y s).z (next_z s).z z.far
     → AreSpans s x y z
-unfolding place_of
+unfolding world_point
 spans_at s x y z e nx ny nz fx fy fz = λ c.
     rw (nx, ny, nz) (same_point _ _ _ _ _ _
     (axis_span s.frame.x.axis x.axis s.frame.x.against s.at.x x.far s.size e.at.x fx c)
@@ -85,9 +85,9 @@ spans_at s x y z e nx ny nz fx fy fz = λ c.
 
 -- the spans that are taken by the near corner's neighbours are the scope's
 pub are_spans : (s : Scope) (px py pz : Point) (x y z : Span) → Exists s
-    → px ≡ place_of s.at s.frame (local_point s.size.x zero_rat zero_rat)
-    → py ≡ place_of s.at s.frame (local_point zero_rat s.size.y zero_rat)
-    → pz ≡ place_of s.at s.frame (local_point zero_rat zero_rat s.size.z)
+    → px ≡ world_point s.at s.frame (local_point s.size.x zero_rat zero_rat)
+    → py ≡ world_point s.at s.frame (local_point zero_rat s.size.y zero_rat)
+    → pz ≡ world_point s.at s.frame (local_point zero_rat zero_rat s.size.z)
     → x.near ≡ s.at.x → y.near ≡ s.at.y → z.near ≡ s.at.z
     → IsFarOf x.axis s.at.x px.x py.x pz.x x.far → IsFarOf y.axis s.at.y px.y py.y pz.y y.far
     → IsFarOf z.axis s.at.z px.z py.z pz.z z.far → AreSpans s x y z
@@ -95,9 +95,9 @@ are_spans s px py pz x y z e ex ey ez nx ny nz fx fy fz =
     spans_at s x y z e nx ny nz (rw (← ex, ← ey, ← ez) fx) (rw (← ex, ← ey, ← ez) fy) (rw (← ex, ← ey, ← ez) fz)
 
 pub spans_from : (s : Scope) (near px py pz : Point) (x y z : Span) → near ≡ s.at → Exists s
-    → px ≡ place_of s.at s.frame (local_point s.size.x zero_rat zero_rat)
-    → py ≡ place_of s.at s.frame (local_point zero_rat s.size.y zero_rat)
-    → pz ≡ place_of s.at s.frame (local_point zero_rat zero_rat s.size.z)
+    → px ≡ world_point s.at s.frame (local_point s.size.x zero_rat zero_rat)
+    → py ≡ world_point s.at s.frame (local_point zero_rat s.size.y zero_rat)
+    → pz ≡ world_point s.at s.frame (local_point zero_rat zero_rat s.size.z)
     → x.near ≡ near.x → y.near ≡ near.y → z.near ≡ near.z
     → IsFarOf x.axis near.x px.x py.x pz.x x.far → IsFarOf y.axis near.y px.y py.y pz.y y.far
     → IsFarOf z.axis near.z px.z py.z pz.z z.far → AreSpans s x y z

@@ -5,7 +5,7 @@ use Rattle.cga_fraction.specs.Texts.{decimal_text_of}
 use Rattle.cga_obj.specs.Narrow.{IsNarrow}
 use Rattle.cga_word.specs.declared.axis.Axis.{Axis}
 use Rattle.cga_word.specs.declared.axis.Axis.TheVariants.{X, Y, Z}
-use Rattle.cga_frame.specs.Scope.{Scope, place_of}
+use Rattle.cga_frame.specs.Scope.{Scope, world_point}
 use Rattle.cga_frame.specs.declared.point.Point.{Point}
 use Rattle.cga_obj.specs.declared.corner.Corner.{Corner}
 use Rattle.cga_obj.specs.declared.span.Span.{Span}
@@ -44,7 +44,7 @@ point_at x y z c = record { x = along_span x c; y = along_span y c; z = along_sp
 
 -- the spans of a scope
 abbrev pub AreSpans : Scope → Span → Span → Span → Type 0
-AreSpans s x y z = (c : Corner) → place_of s.at s.frame (corner_in s.size c) ≡ point_at x y z c
+AreSpans s x y z = (c : Corner) → world_point s.at s.frame (corner_in s.size c) ≡ point_at x y z c
 
 -- both ends have narrow numbers
 abbrev pub AreNarrow : Span → Type 0

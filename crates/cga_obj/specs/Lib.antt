@@ -4,3 +4,7 @@ pub mod Lots
 pub mod Meshes
 pub mod Narrow
 pub mod Plain
+pub mod DeltaWords
+pub mod Delta
+pub mod DeltaReader
+pub mod DeltaLaws

@@ -1,6 +1,6 @@
 ghost use Rattle.std.specs.Prelude.{◌≡◌, IfSome, IsTrue};
 ghost use Rattle.cga_fraction.specs.Rat.{zero_rat};
-ghost use Rattle.cga_frame.specs.Scope.{place_of};
+ghost use Rattle.cga_frame.specs.Scope.{world_point};
 ghost use Rattle.cga_obj.specs.Boxes.{AreNarrow, AreSpans, IsFarOf, local_point};
 
 use crate::piece::is_narrow;
@@ -51,7 +51,7 @@ fn is_narrow_span(span: &Span) -> bool
 // The world point of local coordinates, where it is in range.
 #[tactic(auto, using(crate::proofs::Spans::placed_at))]
 fn placed(scope: &Scope, x: Fraction, y: Fraction, z: Fraction) -> Option<Point>
-    ensures { IfSome result (λ p. p ≡ place_of scope.now.at scope.now.frame (local_point x y z)) }
+    ensures { IfSome result (λ p. p ≡ world_point scope.now.at scope.now.frame (local_point x y z)) }
 {
     match scope.place(Point { x, y, z }) {
         Ok(point) => Some(point),
@@ -61,9 +61,9 @@ fn placed(scope: &Scope, x: Fraction, y: Fraction, z: Fraction) -> Option<Point>
 
 // The spans by the neighbours of the near corner.
 fn spans_by(scope: &Scope, x: &Point, y: &Point, z: &Point) -> (Span, Span, Span)
-    requires x { x.now ≡ place_of scope.now.at scope.now.frame (local_point scope.now.size.x zero_rat zero_rat) }
-    requires y { y.now ≡ place_of scope.now.at scope.now.frame (local_point zero_rat scope.now.size.y zero_rat) }
-    requires z { z.now ≡ place_of scope.now.at scope.now.frame (local_point zero_rat zero_rat scope.now.size.z) }
+    requires x { x.now ≡ world_point scope.now.at scope.now.frame (local_point scope.now.size.x zero_rat zero_rat) }
+    requires y { y.now ≡ world_point scope.now.at scope.now.frame (local_point zero_rat scope.now.size.y zero_rat) }
+    requires z { z.now ≡ world_point scope.now.at scope.now.frame (local_point zero_rat zero_rat scope.now.size.z) }
     ensures { AreSpans scope.now result.0 result.1 result.2 }
 {
     let near = scope.at();

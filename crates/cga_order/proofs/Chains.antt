@@ -9,7 +9,8 @@ use Rattle.cga_word.specs.declared.mode.Mode.{Mode}
 use Rattle.cga_order.specs.Rank.{Rank, rank_cmp}
 use Rattle.cga_order.specs.Chain.{Chain, IsWhole, IsChild, rank_at, ranks_down, rank, ranks_above, ranks}
 use Rattle.cga_order.specs.Stamp.{maxima, stamps_cmp, stamp_cmp, stamp, birth}
-use Rattle.cga_order.proofs.Order.{rank_total, rank_exact, stamps_exact}
+use Rattle.cga_order.specs.Total.{rank_total}
+use Rattle.cga_order.proofs.Order.{rank_exact, stamps_exact}
 use Rattle.cga_order.proofs.Maxima as stamps
 
 abbrev pub Apart : Mode → Rank → List Rank → Type 0

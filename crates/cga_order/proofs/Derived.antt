@@ -9,7 +9,7 @@ use Rattle.cga_order.specs.World.{World, IsWorld, Placed, Kind, Waiting, Done, F
 use Rattle.cga_order.specs.Run.{outcome, start, IsStep, Reached}
 use Rattle.cga_order.specs.Consistent.{exists_at, waits_at, outcome_at, Stands, HasOutcome, IsMade, IsConsistent, NothingWaits}
 use Rattle.cga_order.specs.Laws.{SeesWhatWasMade}
-use Rattle.cga_order.proofs.Order.{stamps_total}
+use Rattle.cga_order.specs.Total.{stamps_total}
 use Rattle.cga_order.proofs.Members.{waits, place_dec, Has-start, start-Has, Among-shapes_where, Has-from_shapes_where}
 use Rattle.cga_order.proofs.Steps as steps
 use Rattle.cga_order.proofs.Maxima as stamps

@@ -16,8 +16,8 @@ pub use Rattle.cga_order.proofs.Members.{Has-left, Has-right, Has-start, place_d
 pub use Rattle.cga_order.proofs.Members.{Among-left, Among-map, Among-right, map-Among, slice_get-Has}
 -- Lists in which each element stands once
 pub use Rattle.cga_order.proofs.Once.{Among-append, Once-append, Once-index, count-once, length-once}
--- Ranks are in a total order, in which only one rank equals another: itself
-pub use Rattle.cga_order.proofs.Order.{rank_total, stamp_total, stamps_total}
+-- Keys of one mode compare as their stamps
+pub use Rattle.cga_order.proofs.KeyAgrees.{agrees}
 -- In which order members stand in a configuration that was reached
 pub use Rattle.cga_order.proofs.Places.{came_from, slice_get-append, slice_get-map, slice_get-within, stands-reached}
 -- Prefixes of two paths, compared by where the paths part

@@ -17,4 +17,5 @@ mod Derived
 mod Turns
 mod FourShapesInOrder
 mod Once
+mod KeyAgrees
 pub mod Door

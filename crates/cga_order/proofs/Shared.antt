@@ -15,7 +15,8 @@ use Rattle.cga_order.specs.Chain.{Chain, IsWhole, rank_at, ranks_down, ranks}
 use Rattle.cga_order.specs.Stamp.{maxima, stamp_cmp}
 use Rattle.cga_order.specs.Walk.{IsTop, SharesRanks, ranks_from, tops_cmp}
 use Rattle.cga_order.proofs.Prefixes.{then_decided}
-use Rattle.cga_order.proofs.Order.{rank_total, rank_exact}
+use Rattle.cga_order.specs.Total.{rank_total}
+use Rattle.cga_order.proofs.Order.{rank_exact}
 use Rattle.cga_order.proofs.Tops.{In-ranks_run, heads_cmp-tops, ranks-split}
 use Rattle.cga_order.proofs.Maxima.{either}
 use Rattle.cga_order.proofs.Maxima as lists

@@ -8,7 +8,7 @@ use Rattle.cga_order.specs.Chain.{IsChild, rank}
 use Rattle.cga_order.specs.Stamp.{stamps_cmp}
 use Rattle.cga_order.specs.World.{World, IsWorld, Placed, Kind, Waiting, Done, Faulted, Instance, Has, Among, place_of, stamp_of, birth_of, IsEarlier}
 use Rattle.cga_order.specs.Run.{become, outcome, start, IsStep, Reached, AllEarlier, Rises}
-use Rattle.cga_order.proofs.Order.{stamps_total}
+use Rattle.cga_order.specs.Total.{stamps_total}
 use Rattle.cga_order.proofs.Chains.{stamps-place, rank-before, root-before, birth-stamp, birth-child, stamp-child, snoc-same}
 use Rattle.cga_order.proofs.Members.{Has-left, Has-right, Has-append, Has-index, Among-index, Has-start, Has-become, become-Has_elsewhere, become-Has_there}
 use Rattle.cga_order.proofs.Maxima as stamps

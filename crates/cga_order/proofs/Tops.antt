@@ -14,13 +14,13 @@ use Rattle.cga_order.specs.Chain.{Chain, IsWhole, rank_at, ranks_down, ranks}
 use Rattle.cga_order.specs.Head.{IsHead}
 use Rattle.cga_order.specs.Stamp.{maxima, stamps_cmp, stamp_cmp}
 use Rattle.cga_order.specs.Walk.{ranks_run, ranks_from, IsTop, IsWithin, tops_cmp}
-use Rattle.cga_order.proofs.Prefixes.{nat_cmp-less, slice_cmp-within}
-use Rattle.cga_order.proofs.Order.{rank_total, rank_exact}
+use Rattle.cga_order.proofs.Prefixes.{nat_cmp-less, slice_cmp-within, then_decided}
+use Rattle.cga_order.specs.Total.{rank_total}
+use Rattle.cga_order.proofs.Order.{rank_exact}
 use Rattle.cga_order.proofs.Heads as heads
 use Rattle.cga_order.proofs.Maxima as stamps
 use Rattle.std.proofs.Common.{append-nil}
 use Rattle.cga_fraction.proofs.Door.{nat_cmp-same}
-use Rattle.cga_order.proofs.Prefixes.{then_decided}
 
 -- the order of the stamps of the ranks from this depth on
 abbrev pub order_from : Mode → Chain → Chain → ℕ → Ordering

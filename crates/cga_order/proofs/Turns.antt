@@ -8,7 +8,7 @@ use Rattle.cga_order.specs.World.{World, IsWorld, Placed, Kind, Done, Has, Among
 use Rattle.cga_order.specs.Consistent.{exists_at, waits_at, outcome_at, Stands, IsBefore, HasOutcome, IsMade, IsConsistent}
 use Rattle.cga_order.specs.Agenda.{Node, members_of, Keeps, asked, HasChildren, IsSettled, IsRight, AllRight, Came, Remains, IsTurn, IsTree, IsNext, QueuesOnly, Worked}
 use Rattle.cga_order.specs.Run.{AllEarlier, Rises}
-use Rattle.cga_order.proofs.Order.{stamps_total}
+use Rattle.cga_order.specs.Total.{stamps_total}
 use Rattle.cga_order.proofs.Chains.{birth-child, stamp-child, snoc-same}
 use Rattle.cga_order.proofs.Members.{place_dec, Among-shapes_where, Has-from_shapes_where}
 use Rattle.cga_order.proofs.Steps as steps

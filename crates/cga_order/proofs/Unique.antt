@@ -8,7 +8,7 @@ use Rattle.cga_order.specs.Stamp.{stamps_cmp}
 use Rattle.cga_order.specs.World.{World, IsWorld, Placed, Kind, Waiting, Done, Faulted, Instance, Has, Among, shapes_where, is_waiting, is_instance, place_of, stamp_of, birth_of, IsEarlier, SameSeen}
 use Rattle.cga_order.specs.Run.{outcome, start, IsStep, Reached}
 use Rattle.cga_order.specs.Consistent.{exists_at, waits_at, outcome_at, Stands, IsBefore, HasOutcome, IsConsistent, AllBefore, NothingWaits, SameMembers, HasMembers, HasMade}
-use Rattle.cga_order.proofs.Order.{stamps_total}
+use Rattle.cga_order.specs.Total.{stamps_total}
 use Rattle.cga_order.proofs.Chains.{birth-stamp, birth-child}
 use Rattle.cga_order.proofs.Members.{waits, place_dec, Has-start, start-Has, Among-shapes_where, Has-from_shapes_where}
 use Rattle.cga_order.proofs.Steps as steps

@@ -2,6 +2,7 @@ pub mod Rank
 pub mod Head
 pub mod Chain
 pub mod Stamp
+pub mod Total
 pub mod Seen
 pub mod Walk
 pub mod World
@@ -11,3 +12,6 @@ pub mod Agenda
 pub mod Laws
 pub mod FourShapes
 pub mod Once
+pub mod Key
+pub mod KeyLaws
+pub mod ChildKeys

@@ -32,21 +32,17 @@ use Rattle.cga_syntax.specs.Pieces.{conj_step}
 use Rattle.cga_syntax.specs.Brackets.{counted, bracket_of}
 use Rattle.cga_form.specs.Reader.{Reader, ◌>>=◌, ◌>>◌, pure, refuse, single}
 use Rattle.cga_form.specs.Tokens.{is_sign, is_keyword}
-use Rattle.cga_form.specs.Words.{a_relation, relation_of, an_equality, equality_of, a_target, target_of, a_state, state_of, a_scope_word, scope_word_of}
+use Rattle.cga_form.specs.Words.{a_relation, an_equality, a_target, a_state, scope_bytes, a_scope_word}
 use Rattle.cga_parser.specs.Grammar as g
 use Rattle.cga_form.specs.declared.heads.ScopeWord.{ScopeWord}
 use Rattle.cga_form.specs.declared.heads.ScopeWord.TheVariants as scope_word
-use Rattle.cga_form.proofs.Door.{Long, Token, a_sign_is, bracketed, by_token, done, either, keyword_token}
-use Rattle.cga_form.proofs.Door.{listed, long_of, next, no_more, one_token, opening, pick, plain_written, refusing}
+use Rattle.cga_form.proofs.Door.{Long, Token, a_sign_is, bracketed, chosen_token, done, either, keyword_token}
+use Rattle.cga_form.proofs.Door.{listed, long_of, next, one_token, opening, plain_written, refusing}
 use Rattle.cga_form.specs.Laws.{After, Goes, Reads, Some_text}
 use Rattle.std.proofs.Common.{append-nil as nil_right}
 use Rattle.cga_parser.proofs.Layers.{expr_layer, term_layer, factor_layer, size_layer}
 use Rattle.cga_parser.proofs.Lists.{separated_is}
 use Rattle.cga_parser.proofs.Exprs.{dot, close, close_square, round, in_round, some_as, expr_reads, inside_reads, scaled_long, scaled_reads, added_long, added_reads}
-
-abbrev pub scope_bytes : ScopeWord → List ℕ
-scope_bytes scope_word.Occ = codes "occ"
-scope_bytes (scope_word.Size a) = size_word a
 
 -- ---- one layer of the pieces
 
@@ -82,80 +78,20 @@ compare_layer left r right = ap test_pieces (sym (rolls-Compare left r right)) �
 
 -- ---- tokens
 
-relation_of_is : (x : Sign) (r : Relation) → relation_of x ≡ Some r → x ≡ relation_sign r
-relation_of_is s.Equal r e = let q : relation.Equal ≡ r = cc in ap relation_sign q
-relation_of_is s.Unequal r e = let q : relation.Unequal ≡ r = cc in ap relation_sign q
-relation_of_is s.Less r e = let q : relation.Less ≡ r = cc in ap relation_sign q
-relation_of_is s.AtMost r e = let q : relation.AtMost ≡ r = cc in ap relation_sign q
-relation_of_is s.Greater r e = let q : relation.Greater ≡ r = cc in ap relation_sign q
-relation_of_is s.AtLeast r e = let q : relation.AtLeast ≡ r = cc in ap relation_sign q
-relation_of_is _ r e = absurd (cc)
-
-relation_is : (l : Lexeme) (r : Relation) → a_relation l ≡ Some r → l ≡ lexeme.Sign (relation_sign r)
-relation_is (lexeme.Sign x) r e = ap lexeme.Sign (relation_of_is x r e)
-relation_is _ r e = absurd (cc)
-
-relation_counts : (n : ℕ) (r : Relation) → counted (bracket_of (lexeme.Sign (relation_sign r))) n ≡ Some n
-relation_counts n relation.Equal = refl
-relation_counts n relation.Unequal = refl
-relation_counts n relation.Less = refl
-relation_counts n relation.AtMost = refl
-relation_counts n relation.Greater = refl
-relation_counts n relation.AtLeast = refl
-
 relation_token : (n : ℕ) → Token n n (λ r. sign (relation_sign r) ∷ []) a_relation
-relation_token n = by_token Usual (λ r. lexeme.Sign (relation_sign r)) a_relation n relation_is (relation_counts n) relation.Less refl
-
-equality_of_is : (x : Sign) (b : Bool) → equality_of x ≡ Some b → x ≡ equality_sign b
-equality_of_is s.Equal b e = let q : true ≡ b = cc in ap equality_sign q
-equality_of_is s.Unequal b e = let q : false ≡ b = cc in ap equality_sign q
-equality_of_is _ b e = absurd (cc)
-
-equality_is : (l : Lexeme) (b : Bool) → an_equality l ≡ Some b → l ≡ lexeme.Sign (equality_sign b)
-equality_is (lexeme.Sign x) b e = ap lexeme.Sign (equality_of_is x b e)
-equality_is _ b e = absurd (cc)
-
-equality_counts : (n : ℕ) (b : Bool) → counted (bracket_of (lexeme.Sign (equality_sign b))) n ≡ Some n
-equality_counts n true = refl
-equality_counts n false = refl
+relation_token n = chosen_token relation.Equal (relation.Unequal ∷ relation.Less ∷ relation.AtMost ∷ relation.Greater ∷ relation.AtLeast ∷ []) n refl
 
 equality_token : (n : ℕ) → Token n n (λ b. sign (equality_sign b) ∷ []) an_equality
-equality_token n = by_token Usual (λ b. lexeme.Sign (equality_sign b)) an_equality n equality_is (equality_counts n) true refl
-
-target_of_is : (name : List ℕ) (a : Target) → target_of name ≡ Some a → name ≡ target_text a
-target_of_is name a = pick target_text name target.Noparent (is name (target_text target.Noparent)) _ a refl (pick target_text name target.Active (is name (target_text target.Active)) _ a refl (no_more target_text name a))
-
-target_is : (l : Lexeme) (a : Target) → a_target l ≡ Some a → l ≡ lexeme.Text (target_text a)
-target_is (lexeme.Text name) a e = ap lexeme.Text (target_of_is name a e)
-target_is _ a e = absurd (cc)
+equality_token n = chosen_token true (false ∷ []) n refl
 
 target_token : (n : ℕ) → Token n n (λ a. text (target_text a) ∷ []) a_target
-target_token n = by_token Usual (λ a. lexeme.Text (target_text a)) a_target n target_is (λ a. refl) target.Active refl
-
-state_of_is : (name : List ℕ) (a : Answer) → state_of name ≡ Some a → name ≡ state_text a
-state_of_is name a =
-    pick state_text name answer.Nothing (is name (state_text answer.Nothing)) _ a refl
-    (pick state_text name answer.Part (is name (state_text answer.Part)) _ a refl (pick state_text name answer.Full (is name (state_text answer.Full)) _ a refl (no_more state_text name a)))
-
-state_is : (l : Lexeme) (a : Answer) → a_state l ≡ Some a → l ≡ lexeme.Text (state_text a)
-state_is (lexeme.Text name) a e = ap lexeme.Text (state_of_is name a e)
-state_is _ a e = absurd (cc)
+target_token n = chosen_token target.Noparent (target.Active ∷ []) n refl
 
 state_token : (n : ℕ) → Token n n (λ a. text (state_text a) ∷ []) a_state
-state_token n = by_token Usual (λ a. lexeme.Text (state_text a)) a_state n state_is (λ a. refl) answer.Full refl
-
-scope_of_is : (name : List ℕ) (a : ScopeWord) → scope_word_of name ≡ Some a → name ≡ scope_bytes a
-scope_of_is name a =
-    pick scope_bytes name scope_word.Occ (is name (scope_bytes scope_word.Occ)) _ a refl
-    (pick scope_bytes name (scope_word.Size axis.X) (is name (size_word axis.X)) _ a refl
-    (pick scope_bytes name (scope_word.Size axis.Y) (is name (size_word axis.Y)) _ a refl (pick scope_bytes name (scope_word.Size axis.Z) (is name (size_word axis.Z)) _ a refl (no_more scope_bytes name a))))
-
-scope_is : (l : Lexeme) (a : ScopeWord) → a_scope_word l ≡ Some a → l ≡ lexeme.Name (scope_bytes a)
-scope_is (lexeme.Name name) a e = ap lexeme.Name (scope_of_is name a e)
-scope_is _ a e = absurd (cc)
+state_token n = chosen_token answer.Nothing (answer.Part ∷ answer.Full ∷ []) n refl
 
 scope_token : (n : ℕ) → Token n n (λ a. word (scope_bytes a) ∷ []) a_scope_word
-scope_token n = by_token Usual (λ a. lexeme.Name (scope_bytes a)) a_scope_word n scope_is (λ a. refl) scope_word.Occ refl
+scope_token n = chosen_token scope_word.Occ (scope_word.Size axis.X ∷ scope_word.Size axis.Y ∷ scope_word.Size axis.Z ∷ []) n refl
 
 -- ---- forms
 

@@ -33,7 +33,7 @@ use Rattle.cga_syntax.specs.Pieces.{factor_pieces, primary_pieces, cond_pieces, 
 use Rattle.cga_syntax.specs.Pieces.{cond_step, conj_step}
 use Rattle.cga_form.specs.Reader.{Reader, refuse}
 use Rattle.cga_form.specs.Tokens.{a_sign, a_keyword, is_sign, is_keyword}
-use Rattle.cga_form.specs.Words.{a_relation, an_equality, a_target, a_state, a_scope_word}
+use Rattle.cga_form.specs.Words.{a_relation, an_equality, a_target, a_state, scope_bytes, a_scope_word}
 use Rattle.cga_parser.specs.Grammar as g
 use Rattle.cga_form.specs.declared.heads.ScopeWord.TheVariants as scope_word
 use Rattle.cga_form.proofs.Door.{Begun, after, all_of, begun_append, begun_as, begun_drawn, begun_named}
@@ -44,7 +44,7 @@ use Rattle.cga_form.specs.Laws.{Again, Leads, nothing}
 use Rattle.cga_parser.proofs.Layers.{expr_layer, term_layer, factor_layer, number_layer, named_layer, group_layer as bracket_layer, floor_layer, ceil_layer, rand_layer}
 use Rattle.cga_parser.proofs.Exprs.{inside_reads, scaled_long, scaled_reads, added_long, added_reads}
 use Rattle.cga_parser.proofs.ExprsAgain.{goes_on, no_scaling, no_addition, Spares, expr_begun, scaled_again, scaled_starts, added_again, added_starts, added_begun, expr_again, inside_again, neither}
-use Rattle.cga_parser.proofs.Conds.{scope_bytes, IsInner, no_inner, one_inner, cond_reads, square_pieces, occ_pieces}
+use Rattle.cga_parser.proofs.Conds.{IsInner, no_inner, one_inner, cond_reads, square_pieces, occ_pieces}
 use Rattle.cga_parser.proofs.Conds.{sum_layer, further_test_pieces, further_test_long, further_test_reads}
 use Rattle.cga_parser.proofs.Conds.{further_conj_pieces, further_conj_long, further_conj_reads, cond_layer}
 use Rattle.cga_parser.proofs.Conds.{conj_layer, group_layer, not_layer, occ_layer, compare_layer}

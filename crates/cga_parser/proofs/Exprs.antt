@@ -23,13 +23,13 @@ use Rattle.cga_syntax.specs.Pieces.{primary_pieces}
 use Rattle.cga_syntax.specs.Brackets.{counted, bracket_of}
 use Rattle.cga_form.specs.Reader.{Reader, ◌>>=◌, ◌>>◌, pure, refuse, single, enter}
 use Rattle.cga_form.specs.Tokens.{a_sign, a_whole, is_sign, is_keyword, unless}
-use Rattle.cga_form.specs.Words.{primary_head, primary_keyword, size_axis, size_axis_of, an_addition, add_sign, a_scaling, scale_sign}
+use Rattle.cga_form.specs.Words.{primary_head, primary_words, size_axis, an_addition, a_scaling}
 use Rattle.cga_parser.specs.Grammar as g
 use Rattle.cga_form.specs.declared.heads.PrimaryHead.{PrimaryHead}
 use Rattle.cga_form.specs.declared.heads.PrimaryHead.TheVariants as head
-use Rattle.cga_form.proofs.Door.{Long, Token, a_keyword_is, a_sign_is, as_token, bracketed, by_token, done, either}
-use Rattle.cga_form.proofs.Door.{listed, long_of, named_is, next, no_more, nothing, one_rand, one_token, opening}
-use Rattle.cga_form.proofs.Door.{pick, refusing, sign_token, token_first, whole_token}
+use Rattle.cga_form.proofs.Door.{Long, Token, a_keyword_is, a_sign_is, as_token, bracketed, chosen_has, chosen_token, done, either}
+use Rattle.cga_form.proofs.Door.{listed, long_of, named_is, next, nothing, one_rand, one_token, opening}
+use Rattle.cga_form.proofs.Door.{refusing, sign_token, token_first, whole_token}
 use Rattle.cga_form.specs.Laws.{After, Goes, Reads, Some_text}
 use Rattle.std.proofs.Common.{append-nil as nil_right}
 use Rattle.cga_parser.proofs.Layers.{expr_layer, term_layer, added_layer, scaled_layer, factor_layer, number_layer, named_layer, size_layer, group_layer, floor_layer, ceil_layer, rand_layer}
@@ -117,75 +117,29 @@ named_head : (b : Bool) (name : List ℕ) (a : PrimaryHead) → unless b (head.N
 named_head true name a e = absurd (cc)
 named_head false name a e = (refl, cc)
 
-keyword_head : (x : Keyword) (a : PrimaryHead) → primary_keyword x ≡ Some a → head_pieces a ≡ keyword x ∷ []
-keyword_head k.Scope a e = let q : head.Scope ≡ a = cc in ap head_pieces (sym q)
-keyword_head k.Floor a e = let q : head.Floor ≡ a = cc in ap head_pieces (sym q)
-keyword_head k.Ceil a e = let q : head.Ceil ≡ a = cc in ap head_pieces (sym q)
-keyword_head _ a e = absurd (cc)
-
 head_means : (l : Lexeme) (a : PrimaryHead) → primary_head l ≡ Some a → (sp : Space) × (head_pieces a ≡ token sp l ∷ [])
 head_means (lexeme.Number value) a e = let q : head.Number value ≡ a = cc in (Usual, ap head_pieces (sym q))
 head_means (lexeme.Name name) a e = let t = named_head (is_reserved name) name a e in (Usual, ap head_pieces (sym t.1) ∙ ap (λ z. z ∷ []) (named_is name t.0))
-head_means (lexeme.Keyword x) a e = (Usual, keyword_head x a e)
-head_means _ a e = absurd (cc)
+head_means l a e = (Usual, chosen_has (λ l a. head_pieces a ≡ token Usual l ∷ []) primary_words (refl, (refl, (refl, tt))) l a e)
 
 head_counts : (n : ℕ) (l : Lexeme) (a : PrimaryHead) → primary_head l ≡ Some a → counted (bracket_of l) n ≡ Some n
 head_counts n (lexeme.Number value) a e = refl
 head_counts n (lexeme.Name name) a e = refl
-head_counts n (lexeme.Keyword x) a e = refl
-head_counts n _ a e = absurd (cc)
+head_counts n l a e = chosen_has (λ l a. counted (bracket_of l) n ≡ Some n) primary_words (refl, (refl, (refl, tt))) l a e
 
 head_token : (n : ℕ) → Token n n head_pieces primary_head
 head_token n = record { means = head_means; counts = head_counts n; some = (lexeme.Keyword k.Scope, head.Scope, refl) }
 
-size_is : (name : List ℕ) (a : Axis) → size_axis_of name ≡ Some a → name ≡ size_word a
-size_is name a = pick size_word name axis.X (is name (size_word axis.X)) _ a refl (pick size_word name axis.Y (is name (size_word axis.Y)) _ a refl (pick size_word name axis.Z (is name (size_word axis.Z)) _ a refl (no_more size_word name a)))
-
-size_token_is : (l : Lexeme) (a : Axis) → size_axis l ≡ Some a → l ≡ lexeme.Name (size_word a)
-size_token_is (lexeme.Name name) a e = ap lexeme.Name (size_is name a e)
-size_token_is _ a e = absurd (cc)
-
-size_counts : (n : ℕ) (a : Axis) → counted (bracket_of (lexeme.Name (size_word a))) n ≡ Some n
-size_counts n a = refl
-
 pub size_token : (n : ℕ) → Token n n (λ a. word (size_word a) ∷ []) size_axis
-size_token n = by_token Usual (λ a. lexeme.Name (size_word a)) size_axis n size_token_is (size_counts n) axis.X refl
+size_token n = chosen_token axis.X (axis.Y ∷ axis.Z ∷ []) n refl
 
 -- ---- signs of operators
 
-add_sign_is : (x : Sign) (minus : Bool) → add_sign x ≡ Some minus → x ≡ (if minus then s.Minus else s.Plus)
-add_sign_is s.Plus minus e = let q : false ≡ minus = cc in ap (λ b. if b then s.Minus else s.Plus) q
-add_sign_is s.Minus minus e = let q : true ≡ minus = cc in ap (λ b. if b then s.Minus else s.Plus) q
-add_sign_is _ minus e = absurd (cc)
-
-add_is : (l : Lexeme) (minus : Bool) → an_addition l ≡ Some minus → l ≡ lexeme.Sign (if minus then s.Minus else s.Plus)
-add_is (lexeme.Sign x) minus e = ap lexeme.Sign (add_sign_is x minus e)
-add_is _ minus e = absurd (cc)
-
-add_counts : (n : ℕ) (minus : Bool) → counted (bracket_of (lexeme.Sign (if minus then s.Minus else s.Plus))) n ≡ Some n
-add_counts n true = refl
-add_counts n false = refl
-
 add_token : (n : ℕ) → Token n n (λ minus. sign (if minus then s.Minus else s.Plus) ∷ []) an_addition
-add_token n = by_token Usual (λ minus. lexeme.Sign (if minus then s.Minus else s.Plus)) an_addition n add_is (add_counts n) true refl
-
-scale_sign_is : (x : Sign) (divide : Bool) → scale_sign x ≡ Some divide → x ≡ (if divide then s.Slash else s.Star)
-scale_sign_is s.Star divide e = let q : false ≡ divide = cc in ap (λ b. if b then s.Slash else s.Star) q
-scale_sign_is s.Slash divide e = let q : true ≡ divide = cc in ap (λ b. if b then s.Slash else s.Star) q
-scale_sign_is _ divide e = absurd (cc)
-
-scale_is : (l : Lexeme) (divide : Bool) → a_scaling l ≡ Some divide
-    → l ≡ lexeme.Sign (if divide then s.Slash else s.Star)
-scale_is (lexeme.Sign x) divide e = ap lexeme.Sign (scale_sign_is x divide e)
-scale_is _ divide e = absurd (cc)
-
-scale_counts : (n : ℕ) (divide : Bool)
-    → counted (bracket_of (lexeme.Sign (if divide then s.Slash else s.Star))) n ≡ Some n
-scale_counts n true = refl
-scale_counts n false = refl
+add_token n = chosen_token false (true ∷ []) n refl
 
 scale_token : (n : ℕ) → Token n n (λ divide. sign (if divide then s.Slash else s.Star) ∷ []) a_scaling
-scale_token n = by_token Usual (λ divide. lexeme.Sign (if divide then s.Slash else s.Star)) a_scaling n scale_is (scale_counts n) true refl
+scale_token n = chosen_token false (true ∷ []) n refl
 
 -- ---- expressions
 

@@ -19,7 +19,7 @@ use Rattle.cga_syntax.specs.Pieces.{Writes, preceded, at_most, after_each, argum
 use Rattle.cga_syntax.specs.Pieces.{selector_pieces, size_pieces, expr_pieces}
 use Rattle.cga_form.specs.Reader.{Reader, ◌>>=◌, ◌>>◌, pure, refuse, single, many, many_from}
 use Rattle.cga_form.specs.Tokens.{is_sign}
-use Rattle.cga_form.specs.Words.{is_relative, an_axis, a_solid}
+use Rattle.cga_form.specs.Words.{is_relative, turn_number, an_axis, a_solid, choice_text}
 use Rattle.cga_parser.specs.Grammar as g
 use Rattle.cga_parser.proofs.Threes.{threes_are}
 use Rattle.cga_form.specs.declared.heads.SelectorHead.{SelectorHead}
@@ -29,8 +29,8 @@ use Rattle.cga_form.proofs.Door.{one_token, piece_written, refusing, sign_token,
 use Rattle.cga_form.specs.Laws.{After, Goes, Reads, Some_text}
 use Rattle.cga_parser.proofs.Lists.{after_map, preceded_is}
 use Rattle.cga_parser.proofs.Exprs.{comma, close, round, in_round, some_as, expr_some, refused_expr, IsInside}
-use Rattle.cga_parser.proofs.ItemTokens.{relative_token, turn_number, turn_token, ninety_token, axis_token, solid_token}
-use Rattle.cga_parser.proofs.ItemTokens.{side_token, choice_text, choice_token}
+use Rattle.cga_parser.proofs.ItemTokens.{relative_token, turn_token, ninety_token, axis_token, solid_token}
+use Rattle.cga_parser.proofs.ItemTokens.{side_token, choice_token}
 
 -- ---- forms of a value
 

@@ -20,7 +20,7 @@ use Rattle.cga_syntax.specs.Pieces.{turned, plain, number, sign, text, Pieces, I
 use Rattle.cga_syntax.specs.Pieces.{solid_text, side_text, selector_pieces, size_pieces, expr_pieces}
 use Rattle.cga_form.specs.Reader.{Reader, at, begins}
 use Rattle.cga_form.specs.Tokens.{a_sign, is_sign, a_whole}
-use Rattle.cga_form.specs.Words.{a_relative, is_relative, a_turn, a_ninety, an_axis, a_solid, a_side, a_selector}
+use Rattle.cga_form.specs.Words.{a_relative, is_relative, turn_number, a_turn, a_ninety, an_axis, a_solid, a_side, a_selector}
 use Rattle.cga_parser.specs.Grammar as g
 use Rattle.cga_parser.proofs.Threes.{threes_are}
 use Rattle.cga_form.specs.declared.heads.SelectorHead.TheVariants as choice
@@ -31,7 +31,6 @@ use Rattle.cga_form.specs.Laws.{Again, Agrees, Leads, nothing}
 use Rattle.cga_parser.proofs.Lists.{preceded_is}
 use Rattle.cga_parser.proofs.Exprs.{IsInside}
 use Rattle.cga_parser.proofs.ExprsAgain.{goes_on, Spares, expr_begun, AgainInside}
-use Rattle.cga_parser.proofs.ItemTokens.{turn_number}
 use Rattle.cga_parser.proofs.ItemParts.{size_relative, size_absolute, triple, turn_pieces, turn_part_pieces}
 use Rattle.cga_parser.proofs.ItemParts.{solid_pieces, further_size_pieces, further_size_long, further_size_reads}
 use Rattle.cga_parser.proofs.ItemParts.{split_pieces, repeat_pieces, selector_part_pieces, further_argument_pieces}

@@ -10,9 +10,10 @@ use Rattle.cga_word.specs.declared.mode.Mode.{Mode}
 use Rattle.cga_order.specs.Chain.{Chain}
 use Rattle.cga_order.specs.Stamp.{stamp_cmp}
 use Rattle.cga_order.specs.World.{Among}
-use Rattle.cga_order.proofs.Door.{Among-index as among_at, split, stamp_total}
-use Rattle.cga_key.specs.Key.{chain_of_key}
-use Rattle.cga_key.specs.declared.stamp_key.StampKey.{StampKey}
+use Rattle.cga_order.specs.Total.{stamp_total}
+use Rattle.cga_order.proofs.Door.{Among-index as among_at, split}
+use Rattle.cga_order.specs.Key.{chain_of_key}
+use Rattle.cga_order.specs.declared.stamp_key.StampKey.{StampKey}
 use Rattle.cga_queue.specs.Last.{IsPast, IsUpTo, is_after, is_next}
 use Rattle.cga_queue.specs.declared.last.Last.TheVariants.{At}
 

@@ -3,8 +3,8 @@ use Rattle.std.proofs.Common.{◌≡◌, ℕ, sym, ap, ◌∙◌, Some, Bool, tr
 use Rattle.std.specs.Prelude.{OnOk, Result, Ok, Err}
 use Rattle.cga_word.specs.declared.mode.Mode.{Mode}
 use Rattle.cga_order.specs.Chain.{Chain}
-use Rattle.cga_key.specs.declared.stamp_key.StampKey.{StampKey}
-use Rattle.cga_key.specs.Key.{chain_of_key}
+use Rattle.cga_order.specs.declared.stamp_key.StampKey.{StampKey}
+use Rattle.cga_order.specs.Key.{chain_of_key}
 use Rattle.cga_queue.specs.Agenda.{AgendaView, Chains, Grows, IsLeast, IsPopped, IsPut, OneEach, SameOn, is_due}
 use Rattle.cga_queue.proofs.OnIt.{due_from, grows_by, is_least, least_after, passed_over, put_grows, same_on}
 

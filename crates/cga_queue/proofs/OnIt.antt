@@ -10,9 +10,9 @@ use Rattle.cga_word.specs.declared.mode.Mode.{Mode}
 use Rattle.cga_order.specs.Chain.{Chain}
 use Rattle.cga_order.specs.Stamp.{stamp_cmp}
 use Rattle.cga_order.specs.World.{Among}
-use Rattle.cga_order.proofs.Door.{stamp_total}
-use Rattle.cga_key.specs.declared.stamp_key.StampKey.{StampKey}
-use Rattle.cga_key.specs.Key.{chain_of_key}
+use Rattle.cga_order.specs.Total.{stamp_total}
+use Rattle.cga_order.specs.declared.stamp_key.StampKey.{StampKey}
+use Rattle.cga_order.specs.Key.{chain_of_key}
 use Rattle.cga_queue.specs.Agenda.{AgendaView, Names, IsPut, IsPopped, NamesNone, NoneOn, Chains, is_due, on, OneEach, Grows, IsLeast, SameOn}
 use Rattle.cga_queue.proofs.Cases.{and_left, and_right, and_both, or_either}
 pub use Rattle.cga_fraction.proofs.Door.{Equal_from_is_eq as is_eq_is}

@@ -8,11 +8,11 @@ use Rattle.cga_word.specs.declared.mode.Mode.{Mode}
 use Rattle.cga_order.specs.Chain.{Chain}
 use Rattle.cga_order.specs.Stamp.{stamp_cmp}
 use Rattle.cga_order.specs.World.{Among}
-use Rattle.cga_key.proofs.Door.{agrees}
-use Rattle.cga_order.proofs.Door.{stamp_total}
-use Rattle.cga_key.specs.declared.stamp_key.StampKey.{StampKey}
-use Rattle.cga_key.specs.Key.{chain_of_key, key_cmp}
-use Rattle.cga_key.specs.KeyLaws.{key_total}
+use Rattle.cga_order.proofs.Door.{agrees}
+use Rattle.cga_order.specs.Total.{stamp_total}
+use Rattle.cga_order.specs.declared.stamp_key.StampKey.{StampKey}
+use Rattle.cga_order.specs.Key.{chain_of_key, key_cmp}
+use Rattle.cga_order.specs.KeyLaws.{key_total}
 use Rattle.cga_queue.specs.Agenda.{AgendaView, NamesNone, OfOneMode, IsPut, IsPopped}
 use Rattle.cga_queue.specs.Lines.{AllBehind, Rises, IsPutIn, IsTakenOut, counted, spare}
 use Rattle.cga_queue.proofs.Entries.{Takes, came_or_was}

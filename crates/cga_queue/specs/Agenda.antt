@@ -9,8 +9,8 @@ use Rattle.cga_word.specs.declared.mode.Mode.{Mode}
 use Rattle.cga_order.specs.Chain.{Chain}
 use Rattle.cga_order.specs.Stamp.{stamp_cmp}
 use Rattle.cga_order.specs.World.{Among}
-use Rattle.cga_key.specs.declared.stamp_key.StampKey.{StampKey}
-use Rattle.cga_key.specs.Key.{chain_of_key}
+use Rattle.cga_order.specs.declared.stamp_key.StampKey.{StampKey}
+use Rattle.cga_order.specs.Key.{chain_of_key}
 
 pub record AgendaView : Type 0 where
   pub mode : Mode

@@ -5,7 +5,7 @@ use Rattle.std.specs.Ordering.{is_lt}
 use Rattle.cga_word.specs.declared.mode.Mode.{Mode}
 use Rattle.cga_order.specs.Chain.{Chain}
 use Rattle.cga_order.specs.Stamp.{stamp_cmp}
-use Rattle.cga_key.specs.Key.{chain_of_key}
+use Rattle.cga_order.specs.Key.{chain_of_key}
 use Rattle.cga_queue.specs.Agenda.{Chains}
 use Rattle.cga_queue.specs.declared.last.Last.{Last}
 use Rattle.cga_queue.specs.declared.last.Last.TheVariants.{Unknown, Nobody, At}

@@ -6,12 +6,12 @@ use Rattle.cga_queue.specs.declared.remembered.TheConstants.{PLACES}
 abbrev pub RememberedView : Type 0
 RememberedView = List (Option ℕ)
 
-abbrev pub place_of : ℕ → ℕ
-place_of c = c % PLACES
+abbrev pub cell_of : ℕ → ℕ
+cell_of c = c % PLACES
 
 -- the number stands in its place
 abbrev pub IsRemembered : RememberedView → ℕ → Type 0
-IsRemembered ns c = slice_get ns (place_of c) ≡ Some (Some c)
+IsRemembered ns c = slice_get ns (cell_of c) ≡ Some (Some c)
 
 -- each remembered number is that of a node on the agenda
 abbrev pub AreOn : Chains → RememberedView → AgendaView → Type 0

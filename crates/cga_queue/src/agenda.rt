@@ -1,14 +1,13 @@
 ghost use Rattle.std.specs.Prelude.{◌≡◌, ◌↔◌, [], suc, length, IfSome, IfNone, OnOk};
 ghost use Rattle.cga_order.specs.Chain.{IsWhole};
 ghost use Rattle.cga_order.specs.Seen.{chain_of};
-ghost use Rattle.cga_key.specs.Key.{chain_of_key};
+ghost use Rattle.cga_order.specs.Key.{chain_of_key};
 ghost use Rattle.cga_queue.specs.Agenda.{IsPopped, IsPut, NamesNone};
 
 use crate::lines::{put_in, take_out};
 use cga_fraction::NoMemory;
 use cga_index::NodeId;
-use cga_key::StampKey;
-use cga_order::Chain;
+use cga_order::{Chain, StampKey};
 use cga_word::Mode;
 use std::alloc::Global;
 use std::collections::{BTreeMap, VecDeque};
@@ -25,7 +24,7 @@ pub struct Agenda {
 }
 
 impl Model for Agenda {
-    ghost use Rattle.cga_key.specs.Key.{key_cmp};
+    ghost use Rattle.cga_order.specs.Key.{key_cmp};
     ghost use Rattle.cga_queue.specs.Agenda.{AgendaView, OfOneMode};
     ghost use Rattle.cga_queue.specs.Lines.{Rises, counted};
 

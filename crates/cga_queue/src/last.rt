@@ -1,7 +1,7 @@
 //! The last of some nodes: when none of them is left to be looked at.
 ghost use Rattle.std.specs.Prelude.{◌≡◌, ℕ, true, Some, IfOk};
 ghost use Rattle.std.specs.Ordering.{is_lt};
-ghost use Rattle.cga_key.specs.Key.{chain_of_key};
+ghost use Rattle.cga_order.specs.Key.{chain_of_key};
 ghost use Rattle.cga_order.specs.Chain.{Chain as Along, IsWhole};
 ghost use Rattle.cga_order.specs.Seen.{chain_of};
 ghost use Rattle.cga_order.specs.Stamp.{stamp_cmp};
@@ -11,8 +11,7 @@ ghost use Rattle.cga_queue.specs.Last.{IsBound, IsPast, IsUpTo, chain_at, is_aft
 use crate::chained::Chained;
 use cga_fraction::NoMemory;
 use cga_index::NodeId;
-use cga_key::StampKey;
-use cga_order::{Chain, cmp_stamp};
+use cga_order::{Chain, StampKey, cmp_stamp};
 use cga_word::Mode;
 use std::alloc::Global;
 use std::cmp::Ordering;

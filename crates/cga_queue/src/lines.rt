@@ -1,11 +1,11 @@
 //! Entries in the order of their keys: in a map, but for those that come behind all that there are.
 ghost use Rattle.std.specs.Prelude.{◌≡◌, [], true, IfSome, IfNone, OnOk, OnErr};
-ghost use Rattle.cga_key.specs.Key.{key_cmp};
+ghost use Rattle.cga_order.specs.Key.{key_cmp};
 ghost use Rattle.cga_queue.specs.Lines.{AllBefore, FirstCompares, FirstsCompare, IsPutIn, IsTakenOut, Rises};
 
 use cga_fraction::NoMemory;
 use cga_index::NodeId;
-use cga_key::StampKey;
+use cga_order::StampKey;
 use cga_word::Mode;
 use std::cmp::Ordering;
 use std::collections::{BTreeMap, VecDeque};

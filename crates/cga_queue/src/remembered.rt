@@ -1,5 +1,5 @@
 ghost use Rattle.std.specs.Prelude.{◌≡◌, ◌≢◌, ◌⊎◌, ◌↔◌, ◌<◌, ◌%◌, ℕ, [], Some, IsTrue, OnOk, slice_get};
-ghost use Rattle.cga_queue.specs.Remembered.{IsRemembered, place_of};
+ghost use Rattle.cga_queue.specs.Remembered.{IsRemembered, cell_of};
 
 use cga_fraction::NoMemory;
 use cga_index::NodeId;
@@ -26,8 +26,8 @@ impl Model for Remembered {
     ghost view = { λ n. n.places.items };
 }
 
-fn place_of(id: NodeId) -> usize
-    ensures { result ≡ place_of id }
+fn cell_of(id: NodeId) -> usize
+    ensures { result ≡ cell_of id }
 {
     id.number() as usize % PLACES
 }
@@ -46,7 +46,7 @@ impl Remembered {
     pub fn has(&self, id: NodeId) -> bool
         ensures { IsTrue result ↔ IsRemembered self.now id }
     {
-        match self.places.get(place_of(id)) {
+        match self.places.get(cell_of(id)) {
             Some(Some(other)) => other.same(id),
             _ => false,
         }
@@ -60,14 +60,14 @@ impl Remembered {
         if self.places.len() < PLACES {
             self.places.resize(PLACES, None)?;
         }
-        self.places[place_of(id)] = Some(id);
+        self.places[cell_of(id)] = Some(id);
         Ok(())
     }
 
     pub fn forget(&mut self, id: NodeId)
         ensures { (c : ℕ) → IsRemembered self.new c → (c ≢ id) × IsRemembered self.old c }
     {
-        if let Some(place) = self.places.get_mut(place_of(id)) {
+        if let Some(place) = self.places.get_mut(cell_of(id)) {
             *place = None;
         }
     }

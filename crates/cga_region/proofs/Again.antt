@@ -1,8 +1,8 @@
 -- Lots that are as before agree as before.
 use Rattle.std.proofs.Common.{◌≡◌, List, [], ◌∷◌, inl, inr, refl, sym, ap, ◌∙◌, subst}
 use Rattle.cga_frame.specs.Box.{touches}
-use Rattle.cga_district.specs.Jobs.{LotJob}
-use Rattle.cga_district.specs.Told.{AgreeOn, Told}
+use Rattle.cga_region.specs.TownJobs.{LotJob}
+use Rattle.cga_region.specs.Told.{AgreeOn, Told}
 use Rattle.cga_order.specs.World.{Among}
 use Rattle.cga_shape.specs.declared.lot.Lot.{Lot}
 use Rattle.cga_region.specs.Again.{IsAsBefore, Part, parts_are, parts_were, RestAgrees}

@@ -2,9 +2,9 @@
 use Rattle.std.proofs.Common.{◌≡◌, List, [], ◌∷◌, refl, inl, inr, sym, subst}
 use Rattle.std.specs.Prelude.{◌↔◌}
 use Rattle.cga_derivation.specs.Derivation.{IsDerived}
-use Rattle.cga_district.specs.Jobs.{AreJobsOf, AreSettled, IsSettled, JobsAreTheTown, LotJob, lots_of}
-use Rattle.cga_district.specs.Told.{ToldIsSettled}
-use Rattle.cga_district.specs.Towns.{with_lots}
+use Rattle.cga_region.specs.TownJobs.{AreJobsOf, AreSettled, IsSettled, JobsAreTheTown, LotJob, lots_of}
+use Rattle.cga_region.specs.Told.{ToldIsSettled}
+use Rattle.cga_region.specs.Towns.{with_lots}
 use Rattle.cga_expand.specs.Derivation.{derivation_of}
 use Rattle.cga_order.proofs.Door.{Among-append, Among-left, Among-right}
 use Rattle.cga_order.specs.Consistent.{SameMembers}
@@ -17,7 +17,7 @@ use Rattle.cga_region.specs.Changes.{both, Course, told_by, told_by_all}
 use Rattle.cga_region.specs.Kept.{IsKept}
 use Rattle.cga_region.proofs.Jobs.{by_settled, kept_settled}
 use Rattle.cga_region.proofs.Lots.{places_differ, tell_alike}
-use Rattle.cga_district.proofs.Door.{reordered}
+use Rattle.cga_region.proofs.Reordered.{reordered}
 
 -- ---- what is told
 

@@ -5,9 +5,9 @@ use Rattle.std.proofs.lemmas.List.Sums.{sum_by-append}
 use Rattle.cga_agenda.proofs.Door.{count_append}
 use Rattle.cga_city.specs.Lots.{names_of}
 use Rattle.cga_city.specs.Reports.{drawn_in}
-use Rattle.cga_district.specs.Jobs.{JobsAreTheTown, LotJob}
-use Rattle.cga_district.specs.Parts.{joined}
-use Rattle.cga_district.specs.Told.{ToldIsSettled}
+use Rattle.cga_region.specs.TownJobs.{JobsAreTheTown, LotJob}
+use Rattle.cga_region.specs.TownParts.{joined}
+use Rattle.cga_region.specs.Told.{ToldIsSettled}
 use Rattle.cga_order.specs.World.{Among}
 use Rattle.cga_shape.specs.declared.drawn.Drawn.{Drawn}
 use Rattle.cga_shape.specs.declared.sources.Sources.{Sources}

@@ -18,7 +18,7 @@ use Rattle.cga_expand.specs.Derivation.{NamesDiffer}
 use Rattle.cga_city.specs.Lots.{names_of}
 use Rattle.cga_city.specs.Order.{members_of}
 use Rattle.cga_city.specs.Reports.{drawn_in, drawn_of}
-use Rattle.cga_district.specs.Parts.{ArePartsOf, joined}
+use Rattle.cga_region.specs.TownParts.{ArePartsOf, joined}
 use Rattle.cga_region.specs.Lots.{TellAlikeOf}
 use Rattle.cga_region.specs.Parts.{AllTellAlike, BillsAreSums, drawn_apart}
 

@@ -12,8 +12,8 @@ use Rattle.cga_city.specs.Order.{comes_before, members_of}
 use Rattle.cga_city.specs.Reports.{drawn_as, drawn_in, drawn_of}
 use Rattle.cga_derivation.proofs.Door.{one}
 use Rattle.cga_derivation.specs.Derivation.{IsDerived}
-use Rattle.cga_district.specs.Jobs.{AreJobsOf, AreSettled, JobsAreTheTown, LotJob, lots_of}
-use Rattle.cga_district.specs.Towns.{with_lots}
+use Rattle.cga_region.specs.TownJobs.{AreJobsOf, AreSettled, JobsAreTheTown, LotJob, lots_of}
+use Rattle.cga_region.specs.Towns.{with_lots}
 use Rattle.cga_expand.proofs.Door.{sources_are_derivations}
 use Rattle.cga_expand.specs.Children.{Member}
 use Rattle.cga_expand.specs.Derivation.{derivation_of, NamesDiffer}
@@ -35,7 +35,7 @@ use Rattle.cga_region.proofs.Bills.{both, first, nothing, once_lots, same_drawn,
 use Rattle.cga_region.proofs.Changes.{count_filter}
 use Rattle.cga_region.proofs.Jobs.{by_settled}
 use Rattle.cga_region.proofs.Lots.{places_differ, tell_alike}
-use Rattle.cga_district.proofs.Door.{reordered}
+use Rattle.cga_region.proofs.Reordered.{reordered}
 
 -- ---- counts
 

@@ -1,10 +1,10 @@
 -- A region in jobs that agree on what they see.
 use Rattle.std.proofs.Common.{◌≡◌, List, true, false, sym, ◌∙◌, inl, inr}
 use Rattle.cga_derivation.specs.Derivation.{IsDerived}
-use Rattle.cga_district.proofs.Door.{own_apart}
-use Rattle.cga_district.specs.Jobs.{AreJobsOf, AreSettled, JobsAreTheTown, LotJob, lots_of, own_members}
-use Rattle.cga_district.specs.Told.{ToldIsSettled}
-use Rattle.cga_district.specs.Towns.{with_lots}
+use Rattle.cga_region.proofs.TownJobs.{own_apart}
+use Rattle.cga_region.specs.TownJobs.{AreJobsOf, AreSettled, JobsAreTheTown, LotJob, lots_of, own_members}
+use Rattle.cga_region.specs.Told.{ToldIsSettled}
+use Rattle.cga_region.specs.Towns.{with_lots}
 use Rattle.cga_expand.specs.Children.{Member}
 use Rattle.cga_expand.specs.Derivation.{derivation_of, NamesDiffer}
 use Rattle.cga_shape.specs.declared.sources.Sources.{Sources}

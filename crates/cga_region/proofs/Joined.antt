@@ -1,8 +1,8 @@
 -- Lists one behind the other.
 use Rattle.std.proofs.Common.{◌≡◌, List, [], ◌∷◌, ◌++◌, inl, inr, refl, sym, ap, ◌∙◌, subst, append_assoc}
-use Rattle.cga_district.proofs.Door.{differ_left, differ_right}
-use Rattle.cga_district.specs.Jobs.{LotJob}
-use Rattle.cga_district.specs.Parts.{joined}
+use Rattle.cga_region.proofs.TownRoots.{differ_left, differ_right}
+use Rattle.cga_region.specs.TownJobs.{LotJob}
+use Rattle.cga_region.specs.TownParts.{joined}
 use Rattle.cga_expand.specs.Derivation.{NamesDiffer}
 use Rattle.cga_order.proofs.Door.{Among-append, Among-left, Among-right}
 use Rattle.cga_order.specs.World.{Among}

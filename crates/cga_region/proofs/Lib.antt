@@ -1,3 +1,16 @@
+mod Lists
+mod Turns
+mod Owned
+mod Halos
+mod Districts
+mod Alike
+mod TownRoots
+mod TownParts
+mod TownJobs
+mod Hulls
+mod Reordered
+mod Steps
+mod Told
 mod Lots
 mod Bills
 mod Parts

@@ -7,7 +7,8 @@ use Rattle.cga_order.specs.declared.placed.Kind.{Kind}
 use Rattle.cga_order.specs.World.{Has}
 use Rattle.cga_city.proofs.Door.{among_has, before_strict, filter_from, filter_to, has_among, is_of, lot_differs, sorted_from, sorted_is, sorted_rises, sorted_to}
 use Rattle.cga_derivation.proofs.Door.{derived_consistent}
-use Rattle.cga_district.proofs.Door.{differ_left, differ_right, lot_among, two_names}
+use Rattle.cga_region.proofs.TownRoots.{differ_left, differ_right, two_names}
+use Rattle.cga_region.proofs.Hulls.{lot_among}
 use Rattle.cga_expand.proofs.Door.{sources_are_derivations}
 use Rattle.cga_order.proofs.Door.{Has-append, Has-left, Has-right}
 use Rattle.cga_shape.specs.declared.shape.Shape.{Shape}
@@ -16,7 +17,7 @@ use Rattle.cga_shape.specs.declared.sources.Sources.{Sources}
 use Rattle.cga_derivation.specs.Derivation.{AllApart, IsDerived, NothingWaits}
 use Rattle.cga_expand.specs.Children.{Member}
 use Rattle.cga_expand.specs.Derivation.{derivation_of, NamesDiffer}
-use Rattle.cga_district.specs.Towns.{with_lots, LotsAreApart}
+use Rattle.cga_region.specs.Towns.{with_lots, LotsAreApart}
 use Rattle.cga_city.specs.Nodes.{AreApart}
 use Rattle.cga_city.specs.Order.{comes_before, members_of}
 use Rattle.cga_city.specs.Reports.{drawn_in, drawn_of, faults_in, fault_of}

@@ -16,9 +16,10 @@ use Rattle.cga_expand.specs.Children.{Member}
 use Rattle.cga_expand.specs.Derivation.{NamesDiffer}
 use Rattle.cga_city.proofs.Door.{among_has, has_among}
 use Rattle.cga_city.specs.Nodes.{AreApart}
-use Rattle.cga_district.proofs.Door.{differ_left, differ_right, hulls_tell_apart, lot_among, two_names}
-use Rattle.cga_district.specs.Parts.{AllMeetNone, AreDerived, PartsAreApart, joined}
-use Rattle.cga_district.specs.Towns.{NoneAsks, with_lots}
+use Rattle.cga_region.proofs.TownRoots.{differ_left, differ_right, two_names}
+use Rattle.cga_region.proofs.Hulls.{hulls_tell_apart, lot_among}
+use Rattle.cga_region.specs.TownParts.{AllMeetNone, AreDerived, PartsAreApart, joined}
+use Rattle.cga_region.specs.Towns.{NoneAsks, with_lots}
 use Rattle.cga_region.specs.Parts.{AllTellAlike, AreSums, HullsAreApart, RegionIsItsParts, total_by}
 use Rattle.cga_region.proofs.Bills.{bills_are_sums}
 use Rattle.cga_region.proofs.Lots.{places_differ, tell_alike}

@@ -11,7 +11,7 @@ use Rattle.cga_city.specs.Derived.{is_within}
 use Rattle.cga_city.specs.Grammars.{attribute_place, has_rule, is_plain, ranked, rule_place, with_rule}
 use Rattle.cga_city.specs.Lots.{accepted, finds_no_room, is_bad, rooted, with_lot}
 use Rattle.cga_city.specs.declared.limits.TheConstants.{MOST_LOTS}
-use Rattle.cga_district.specs.Towns.{with_lots}
+use Rattle.cga_region.specs.Towns.{with_lots}
 use Rattle.cga_fraction.specs.Results.{and_then, err_if}
 use Rattle.cga_order.specs.World.{Among}
 use Rattle.cga_rule.specs.declared.grammar.Grammar.{Grammar}

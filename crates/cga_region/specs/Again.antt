@@ -1,8 +1,8 @@
 -- Which pairs of lots have to be compared again behind an edit.
 use Rattle.std.specs.Prelude.{◌≡◌, ◌↔◌, ℕ, List, map, ◌⊎◌}
 use Rattle.cga_order.specs.World.{Among}
-use Rattle.cga_district.specs.Jobs.{LotJob, lots_of}
-use Rattle.cga_district.specs.Told.{AgreeOn, AllAgree, HaveSameSteps, Told}
+use Rattle.cga_region.specs.TownJobs.{LotJob, lots_of}
+use Rattle.cga_region.specs.Told.{AgreeOn, AllAgree, HaveSameSteps, Told}
 use Rattle.cga_shape.specs.declared.lot.Lot.{Lot}
 
 -- of this lot both tell the same box and the same steps

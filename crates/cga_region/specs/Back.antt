@@ -2,7 +2,7 @@
 use Rattle.std.specs.Prelude.{◌≡◌, ◌↔◌, List, [], ◌∷◌}
 use Rattle.cga_bill.specs.Bill.{Balances}
 use Rattle.cga_derivation.specs.Derivation.{IsDerived}
-use Rattle.cga_district.specs.Jobs.{AreJobsOf, AreSettled, LotJob}
+use Rattle.cga_region.specs.TownJobs.{AreJobsOf, AreSettled, LotJob}
 use Rattle.cga_expand.specs.Children.{Member}
 use Rattle.cga_expand.specs.Derivation.{derivation_of, NamesDiffer}
 use Rattle.cga_order.specs.World.{Among}

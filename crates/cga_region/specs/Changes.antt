@@ -5,9 +5,9 @@ use Rattle.cga_bill.specs.Bill.{Balances}
 use Rattle.cga_city.specs.Lots.{names_of}
 use Rattle.cga_city.specs.Reports.{drawn_in}
 use Rattle.cga_derivation.specs.Derivation.{IsDerived}
-use Rattle.cga_district.specs.Jobs.{LotJob}
-use Rattle.cga_district.specs.Parts.{joined}
-use Rattle.cga_district.specs.Towns.{with_lots}
+use Rattle.cga_region.specs.TownJobs.{LotJob}
+use Rattle.cga_region.specs.TownParts.{joined}
+use Rattle.cga_region.specs.Towns.{with_lots}
 use Rattle.cga_expand.specs.Children.{Member}
 use Rattle.cga_expand.specs.Derivation.{derivation_of, NamesDiffer}
 use Rattle.cga_order.specs.World.{Among}

@@ -5,9 +5,9 @@ use Rattle.cga_shape.specs.declared.sources.Sources.{Sources}
 use Rattle.cga_derivation.specs.Derivation.{IsDerived}
 use Rattle.cga_expand.specs.Children.{Member}
 use Rattle.cga_expand.specs.Derivation.{derivation_of, NamesDiffer}
-use Rattle.cga_district.specs.Halos.{own_of}
-use Rattle.cga_district.specs.Jobs.{AreJobsOf, LotJob, rooted}
-use Rattle.cga_district.specs.Told.{AllAgree, IsToldOf, Told}
+use Rattle.cga_region.specs.Halos.{own_of}
+use Rattle.cga_region.specs.TownJobs.{AreJobsOf, LotJob, rooted}
+use Rattle.cga_region.specs.Told.{AllAgree, IsToldOf, Told}
 use Rattle.cga_region.specs.Lots.{TellAlikeOf}
 use Rattle.cga_region.specs.Parts.{AreSums}
 

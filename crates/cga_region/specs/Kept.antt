@@ -4,10 +4,10 @@ use Rattle.cga_order.specs.World.{Among}
 use Rattle.cga_shape.specs.declared.lot.Lot.{Lot}
 use Rattle.cga_shape.specs.declared.sources.Sources.{Sources}
 use Rattle.cga_expand.specs.Derivation.{NamesDiffer}
-use Rattle.cga_district.specs.Jobs.{AreJobsOf, LotJob, lots_of}
-use Rattle.cga_district.specs.Parts.{joined}
-use Rattle.cga_district.specs.Told.{AllAgree, IsToldOf, Told}
-use Rattle.cga_district.specs.Towns.{NoneAsks}
+use Rattle.cga_region.specs.TownJobs.{AreJobsOf, LotJob, lots_of}
+use Rattle.cga_region.specs.TownParts.{joined}
+use Rattle.cga_region.specs.Told.{AllAgree, IsToldOf, Told}
+use Rattle.cga_region.specs.Towns.{NoneAsks}
 
 -- the lots that parts answer for, and those with their neighbours
 abbrev pub own_of : List LotJob → List Lot

@@ -1,3 +1,10 @@
+pub mod Districts
+pub mod Halos
+pub mod Towns
+pub mod TownParts
+pub mod TownJobs
+pub mod Hulls
+pub mod Told
 pub mod Lots
 pub mod Parts
 pub mod Jobs

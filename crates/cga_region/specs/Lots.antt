@@ -6,7 +6,7 @@ use Rattle.cga_shape.specs.declared.sources.Sources.{Sources}
 use Rattle.cga_derivation.specs.Derivation.{IsDerived}
 use Rattle.cga_expand.specs.Children.{Member}
 use Rattle.cga_expand.specs.Derivation.{derivation_of, NamesDiffer}
-use Rattle.cga_district.specs.Towns.{with_lots, AreLots, NoneAsks, MeetsNone}
+use Rattle.cga_region.specs.Towns.{with_lots, AreLots, NoneAsks, MeetsNone}
 use Rattle.cga_city.specs.Reports.{drawn_in, faults_in}
 
 -- of this lot both lists tell the same, in the same order

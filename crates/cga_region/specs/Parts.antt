@@ -7,9 +7,9 @@ use Rattle.cga_shape.specs.declared.sources.Sources.{Sources}
 use Rattle.cga_derivation.specs.Derivation.{IsDerived}
 use Rattle.cga_expand.specs.Children.{Member}
 use Rattle.cga_expand.specs.Derivation.{derivation_of, NamesDiffer}
-use Rattle.cga_district.specs.Towns.{NoneAsks}
-use Rattle.cga_district.specs.Parts.{ArePartsOf, AreDerived}
-use Rattle.cga_district.specs.Hulls.{AllFar, AllHeld}
+use Rattle.cga_region.specs.Towns.{NoneAsks}
+use Rattle.cga_region.specs.TownParts.{ArePartsOf, AreDerived}
+use Rattle.cga_region.specs.Hulls.{AllFar, AllHeld}
 use Rattle.cga_bill.specs.Parts.{IsSumOfBills}
 use Rattle.cga_city.specs.Lots.{names_of}
 use Rattle.cga_city.specs.Reports.{drawn_in}

@@ -4,8 +4,8 @@ use Rattle.cga_city.specs.Apply.{apply, changed, Changed, checked}
 use Rattle.cga_city.specs.Grammars.{is_plain, ranked}
 use Rattle.cga_city.specs.Lots.{accepted, is_bad, with_lot}
 use Rattle.cga_city.specs.declared.limits.TheConstants.{MOST_LOTS}
-use Rattle.cga_district.specs.Parts.{joined}
-use Rattle.cga_district.specs.Towns.{with_lots}
+use Rattle.cga_region.specs.TownParts.{joined}
+use Rattle.cga_region.specs.Towns.{with_lots}
 use Rattle.cga_fraction.specs.Results.{and_then, err_if}
 use Rattle.cga_order.specs.World.{Among}
 use Rattle.cga_shape.specs.declared.edit.Edit.{Edit}

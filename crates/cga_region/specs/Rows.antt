@@ -1,7 +1,7 @@
 -- Worked rows of a region that is kept, each computed from the definitions.
 use Rattle.std.specs.Prelude.{◌≡◌, ℕ, List, [], ◌∷◌, pos, true, false, codes, Ok, Err}
 use Rattle.cga_city.specs.Apply.{changed}
-use Rattle.cga_district.specs.Towns.{with_lots}
+use Rattle.cga_region.specs.Towns.{with_lots}
 use Rattle.cga_fraction.specs.Rat.{of_int}
 use Rattle.cga_frame.specs.Box.{Box, touches}
 use Rattle.cga_rule.specs.declared.grammar.Grammar.{Grammar}

@@ -9,7 +9,7 @@ ghost use Rattle.cga_region.specs.Parts.{RegionIsItsParts};
 ghost use Rattle.cga_region.specs.Refusals.{RefusalsAreOfJobs};
 ghost use Rattle.cga_region.specs.Rows.{EachRowIsSo};
 
-use cga_district::{jobs_are_the_town, lots_are_apart, parts_are_apart, told_is_settled};
+use crate::towns::{jobs_are_the_town, lots_are_apart, parts_are_apart, told_is_settled};
 
 /// Where two parts of a town are apart, the instances and the faults of a lot, and so its bill, are those of its part.
 pub fn lots_are_their_districts()

@@ -5,14 +5,14 @@ use Rattle.cga_order.specs.Agenda.{Node}
 use Rattle.cga_derivation.specs.Derivation.{derive, IsDerived}
 use Rattle.cga_derivation.proofs.Door.{within}
 use Rattle.cga_agenda.specs.Work.{StandOnce, IsStart}
-use Rattle.cga_agenda.specs.Loop.{State, IsDone}
+use Rattle.cga_agenda.specs.Loop.{LoopState, IsDone}
 use Rattle.cga_rework.specs.Rules.{Shapes, Rules, IsRulesEdit, derivation_of}
 use Rattle.cga_rework.specs.Ranked.{Ranked, edit_of}
 use Rattle.cga_rework.specs.Exact.{IsExactRework}
 use Rattle.cga_rework.proofs.End.{rework}
 use Rattle.cga_rework.proofs.More.{none_over}
 
-module _ {S A B F P : Type 0} (shapes : Shapes S) (old new : Rules S A B F P) (laws : IsRulesEdit shapes old new) (start : List (Node (Ranked S) A F P)) (started : IsStart (edit_of shapes old new) start) (start_once : StandOnce start) (last : State (Ranked S) A F P) (budget calls since : ℕ) (ended : IsDone (edit_of shapes old new) start last budget calls since) (before : List (Placed S F P)) (was : IsDerived (derivation_of shapes old) before) where
+module _ {S A B F P : Type 0} (shapes : Shapes S) (old new : Rules S A B F P) (laws : IsRulesEdit shapes old new) (start : List (Node (Ranked S) A F P)) (started : IsStart (edit_of shapes old new) start) (start_once : StandOnce start) (last : LoopState (Ranked S) A F P) (budget calls since : ℕ) (ended : IsDone (edit_of shapes old new) start last budget calls since) (before : List (Placed S F P)) (was : IsDerived (derivation_of shapes old) before) where
   abbrev Exact : Type 0
   Exact =
       (after : List (Placed S F P)) × (derive (derivation_of shapes new) budget ≡ Some after)

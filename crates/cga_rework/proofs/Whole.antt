@@ -10,7 +10,8 @@ use Rattle.cga_order.specs.declared.placed.Kind.{Kind}
 use Rattle.cga_order.specs.Consistent.{Stands}
 use Rattle.cga_order.specs.Agenda.{Node, Keeps, members_of}
 use Rattle.cga_derivation.proofs.Door.{length-fitted}
-use Rattle.cga_order.proofs.Door.{Has-Keeps, stamp-child, stamps_total}
+use Rattle.cga_order.specs.Total.{stamps_total}
+use Rattle.cga_order.proofs.Door.{Has-Keeps, stamp-child}
 use Rattle.cga_order.proofs.Door as stamps
 use Rattle.cga_agenda.specs.Edit.{Edit}
 use Rattle.cga_agenda.specs.Work.{IsTurnOf, Places, HasRenewed, renewed_child, first_kind}

@@ -9,7 +9,7 @@ use Rattle.cga_agenda.specs.Edit.{IsEdit, NonInstance, new_world, renewed}
 use Rattle.cga_agenda.specs.Work.{StandOnce, NoneQueued, IsStart, IsWorking}
 use Rattle.cga_agenda.specs.Record.{Drawn, IsRecord}
 use Rattle.cga_agenda.specs.Known.{IsKnown, IsOverBudget}
-use Rattle.cga_agenda.specs.Loop.{State, IsDone}
+use Rattle.cga_agenda.specs.Loop.{LoopState, IsDone}
 use Rattle.cga_rework.specs.Rules.{Shapes, Rules, IsRulesEdit, derivation_of, shapes_from, rules_from, no_lots, Readings, IsReadBy}
 use Rattle.cga_rework.specs.Ranked.{Ranked, edit_of, ranked_world}
 use Rattle.cga_rework.specs.Touched.{Touched}
@@ -90,7 +90,7 @@ module _ (S A B F P : Type 0) where
     -- within it, the rework is exact, and there was a call of expand for each shape that was expanded
     pub done : (shapes : Shapes S) (old new : Rules S A B F P) → IsRulesEdit shapes old new
         → (start : List (Node (Ranked S) A F P)) → IsStart (edit_of shapes old new) start → StandOnce start
-        → (last : State (Ranked S) A F P) (budget calls since : ℕ)
+        → (last : LoopState (Ranked S) A F P) (budget calls since : ℕ)
         → IsDone (edit_of shapes old new) start last budget calls since
         → (before : List (Placed S F P)) → IsDerived (derivation_of shapes old) before
         → (after : List (Placed S F P)) × (derive (derivation_of shapes new) budget ≡ Some after)

@@ -11,7 +11,7 @@ use Rattle.cga_shape.specs.declared.sources.Sources.{Sources}
 use Rattle.cga_script.specs.CityLines.{with_lot, lots_after, kept_with, sources_of, kept_sources, CityKept, CityTells}
 use Rattle.cga_script.specs.declared.city_line.CityLine.{CityLine}
 use Rattle.cga_script.specs.declared.city_line.CityLine.TheVariants as line
-use Rattle.cga_script.specs.Places.{place_of}
+use Rattle.cga_script.specs.Places.{lot_index}
 use Rattle.cga_script.proofs.LotPlaces.{behind, placed}
 
 -- ---- one more lot
@@ -39,18 +39,18 @@ kept_more lots None = refl
 -- ---- the same where it is known which place it takes
 
 module _ (most : ℕ) (lot : Lot) (lots : List Lot) where
-  pub known_kept : (i : ℕ) → place_of lot.name lots ≡ Some i → length lots ≤ most
+  pub known_kept : (i : ℕ) → lot_index lot.name lots ≡ Some i → length lots ≤ most
       → slice_set lots i lot ≡ take most (with_lot lot lots)
   known_kept i e few =
       let same : length (with_lot lot lots) ≡ length lots = ap length (sym (placed lot lots i e)) ∙ length-set lots i lot in
       placed lot lots i e ∙ sym (take_all most (with_lot lot lots) (omega arith))
 
-  pub new_kept : place_of lot.name lots ≡ None → length lots < most → lots ++ lot ∷ [] ≡ take most (with_lot lot lots)
+  pub new_kept : lot_index lot.name lots ≡ None → length lots < most → lots ++ lot ∷ [] ≡ take most (with_lot lot lots)
   new_kept e room =
       let long = length-append lots (lot ∷ []) in
       sym (take_all most (lots ++ lot ∷ []) (omega (arith, long))) ∙ ap (take most) (behind lot lots e)
 
-  pub full_kept : place_of lot.name lots ≡ None → length lots ≤ most → most ≤ length lots
+  pub full_kept : lot_index lot.name lots ≡ None → length lots ≤ most → most ≤ length lots
       → lots ≡ take most (with_lot lot lots)
   full_kept e few many =
       sym (take_all most lots few) ∙ sym (take-append-le most lots (lot ∷ []) many) ∙ ap (take most) (behind lot lots e)

@@ -12,10 +12,10 @@ further_by n None = None
 further_by n (Some place) = Some (n + place)
 
 -- where the lot of a name stands
-unfoldable pub place_of : List ℕ → List Lot → Option ℕ
-place_of name [] = None
-place_of name (l ∷ ls) = if is l.name name then Some 0 else further_by 1 (place_of name ls)
+unfoldable pub lot_index : List ℕ → List Lot → Option ℕ
+lot_index name [] = None
+lot_index name (l ∷ ls) = if is l.name name then Some 0 else further_by 1 (lot_index name ls)
 
 -- under each name is the place of its lot
 abbrev pub ArePlaces : BTreeMap (List ℕ) ℕ → List Lot → Type 0
-ArePlaces places lots = (name : List ℕ) → get (slice_cmp nat_cmp) places name ≡ place_of name lots
+ArePlaces places lots = (name : List ℕ) → get (slice_cmp nat_cmp) places name ≡ lot_index name lots

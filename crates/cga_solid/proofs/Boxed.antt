@@ -16,7 +16,7 @@ use Rattle.cga_word.specs.declared.primitive.Primitive.TheVariants as primitive
 use Rattle.cga_frame.specs.Box.{box_of}
 use Rattle.cga_frame.specs.Meeting.{IsBetween, IsIn}
 use Rattle.cga_frame.specs.Points.{coordinate, checked_point, point_in_range}
-use Rattle.cga_frame.specs.Scope.{Scope, has_negative, moved, moved_along, place_of}
+use Rattle.cga_frame.specs.Scope.{Scope, has_negative, moved, moved_along, world_point}
 use Rattle.cga_frame.specs.declared.point.Point.{Point}
 use Rattle.cga_frame.specs.declared.signed.Signed.{Signed}
 use Rattle.cga_fraction.specs.Results.{or_err}
@@ -63,8 +63,8 @@ one_axis s p c size l = moved_inside s.against p (coordinate c s.axis) (coordina
 
 -- ---- in the box
 
-in_box : (s : Scope) (c : Point) → IsLocal c s.size → IsIn (place_of s.at s.frame c) (box_of s)
-unfolding place_of
+in_box : (s : Scope) (c : Point) → IsLocal c s.size → IsIn (world_point s.at s.frame c) (box_of s)
+unfolding world_point
 in_box s c l = record {
   x = one_axis s.frame.x s.at.x c s.size l;
   y = one_axis s.frame.y s.at.y c s.size l;
@@ -79,9 +79,9 @@ point_is p v true h = same_ok p v h
 point_is p v false h = absurd (cc)
 
 -- a point that is placed is placed where the scope says
-pub placed_is : (s : Scope) (c v : Point) → placed s c ≡ Ok v → place_of s.at s.frame c ≡ v
+pub placed_is : (s : Scope) (c v : Point) → placed s c ≡ Ok v → world_point s.at s.frame c ≡ v
 unfolding checked_point
-placed_is s c v h = point_is (place_of s.at s.frame c) v (point_in_range (place_of s.at s.frame c)) h
+placed_is s c v h = point_is (world_point s.at s.frame c) v (point_in_range (world_point s.at s.frame c)) h
 
 all_in : (s : Scope) (cs vs : List Point) → AllLocal s.size cs → all_placed s cs ≡ Ok vs
     → All (λ v. IsIn v (box_of s)) vs

@@ -8,7 +8,7 @@ use Rattle.cga_word.specs.declared.axis.Axis.{Axis}
 use Rattle.cga_word.specs.declared.axis.Axis.TheVariants.{X, Y, Z}
 use Rattle.cga_word.specs.declared.primitive.Primitive.{Primitive}
 use Rattle.cga_frame.specs.Points.{InRange, checked_point, coordinate, point_in_range}
-use Rattle.cga_frame.specs.Scope.{Exists, Scope, moved, moved_along, place_of}
+use Rattle.cga_frame.specs.Scope.{Exists, Scope, moved, moved_along, world_point}
 use Rattle.cga_frame.specs.declared.point.Point.{Point}
 use Rattle.cga_frame.specs.declared.signed.Signed.{Signed}
 use Rattle.cga_solid.specs.Corners.{corners_of, over_base, point}
@@ -52,13 +52,13 @@ in_range_along s p c size k near far =
     fraction_in_range (moved_along s p c) (moved_to_end s.against p (coordinate c s.axis) (coordinate size s.axis) (end_along c size s.axis k) near far)
 
 -- so it is placed
-corner_placed : (s : Scope) (c : Point) → Exists s → IsCorner c s.size → placed s c ≡ Ok (place_of s.at s.frame c)
-unfolding place_of checked_point
+corner_placed : (s : Scope) (c : Point) → Exists s → IsCorner c s.size → placed s c ≡ Ok (world_point s.at s.frame c)
+unfolding world_point checked_point
 corner_placed s c e k =
     rw (in_range_along s.frame.x s.at.x c s.size k e.at.x e.far.x, in_range_along s.frame.y s.at.y c s.size k e.at.y e.far.y, in_range_along s.frame.z s.at.z c s.size k e.at.z e.far.z) refl
 
 corners_placed : (s : Scope) (cs : List Point) → Exists s → AreCorners s.size cs
-    → all_placed s cs ≡ Ok (map (place_of s.at s.frame) cs)
+    → all_placed s cs ≡ Ok (map (world_point s.at s.frame) cs)
 corners_placed s [] e ks = refl
 corners_placed s (c ∷ cs) e ks = rw (corner_placed s c e ks.0, corners_placed s cs e ks.1) refl
 

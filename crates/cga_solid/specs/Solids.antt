@@ -3,7 +3,7 @@ use Rattle.std.specs.Prelude.{List, [], ◌∷◌, Bool, true, false, ◌||◌, 
 use Rattle.cga_fraction.specs.Rat.{Rat, zero_rat}
 use Rattle.cga_fraction.specs.Order.{rat_le, rat_lt}
 use Rattle.cga_frame.specs.Points.{checked_point}
-use Rattle.cga_frame.specs.Scope.{Scope, place_of}
+use Rattle.cga_frame.specs.Scope.{Scope, world_point}
 use Rattle.cga_frame.specs.declared.point.Point.{Point}
 use Rattle.cga_word.specs.declared.primitive.Primitive.{Primitive}
 use Rattle.cga_word.specs.declared.primitive.Primitive.TheVariants as primitive
@@ -53,7 +53,7 @@ lacks_size primitive.Hip s = is_flat s.x || is_flat s.y || is_flat s.z
 
 -- the world point of local coordinates, where it is in range
 abbrev pub placed : Scope → Point → Result Point SolidFault
-placed s local = or_err Overflow (checked_point (place_of s.at s.frame local))
+placed s local = or_err Overflow (checked_point (world_point s.at s.frame local))
 
 -- each point placed, or the first refusal
 abbrev pub all_placed : Scope → List Point → Result (List Point) SolidFault

@@ -11,7 +11,7 @@ use Rattle.cga_fraction.specs.Refusals.{checked}
 use Rattle.cga_fraction.specs.Rat.{Rat, of_int, zero_rat}
 use Rattle.cga_word.specs.Seed.{word_of, child_seed_of}
 use Rattle.cga_frame.specs.Axes.{base_frame}
-use Rattle.cga_frame.specs.Scope.{Scope, scope_of, existing, place_of}
+use Rattle.cga_frame.specs.Scope.{Scope, scope_of, existing, world_point}
 use Rattle.cga_order.specs.World.{shapes_where, is_waiting}
 use Rattle.cga_order.specs.declared.placed.Kind.TheVariants.{Waiting, Done}
 use Rattle.cga_shape.specs.declared.shape.Shape.{Shape}
@@ -34,7 +34,7 @@ use Rattle.cga_expand.specs.Settings.{setting_of}
 use Rattle.cga_expand.proofs.Door.{item_Child, item_Resize}
 use Rattle.cga_touched.specs.Words.{same_option, same_rat, same_shape, same_scope}
 use Rattle.cga_touched.specs.Settings.{same_setting}
-use Rattle.cga_touched.specs.Count.{Turn, with_turn, is_answered_alike, turns_of, is_kept, has_same_inputs, touched_shapes, touched_count}
+use Rattle.cga_touched.specs.Count.{AnsweredTurn, with_turn, is_answered_alike, turns_of, is_kept, has_same_inputs, touched_shapes, touched_count}
 use Rattle.cga_touched.specs.Example.{a, b, c, d, one, members}
 use Rattle.cga_touched.specs.Heights.{height, whole, high, yard_and_wall, of_height, farm, HeightIsTouched}
 use Rattle.cga_touched.proofs.Named.{named_is, named_uses}
@@ -70,16 +70,16 @@ abbrev two : Rat
 two = of_int (pos 2)
 
 first_is : (h : Rat) → reached (derivation_of (farm h)) 0 ≡ record { shape = root; kind = Waiting } ∷ []
-unfolding reached plus minus reduced gcd gcd_within rat_le scope_of existing place_of
+unfolding reached plus minus reduced gcd gcd_within rat_le scope_of existing world_point
 first_is h = refl
 
 -- of these numbers alone: the range of a scope is computed
 second_one : step (derivation_of (farm one)) (record { shape = root; kind = Waiting } ∷ []) ≡ after_root one
-unfolding step plus minus reduced times gcd gcd_within rat_le checked scope_of existing place_of word_of state_after groups.priority_of first_entry priority_of rules_of placed by_id number_of children_of expand_of expansion
+unfolding step plus minus reduced times gcd gcd_within rat_le checked scope_of existing world_point word_of state_after groups.priority_of first_entry priority_of rules_of placed by_id number_of children_of expand_of expansion
 second_one = rw (item_Child d [], item_Resize whole high whole, named_is height, item_Child b []) refl
 
 second_two : step (derivation_of (farm two)) (record { shape = root; kind = Waiting } ∷ []) ≡ after_root two
-unfolding step plus minus reduced times gcd gcd_within rat_le checked scope_of existing place_of word_of state_after groups.priority_of first_entry priority_of rules_of placed by_id number_of children_of expand_of expansion
+unfolding step plus minus reduced times gcd gcd_within rat_le checked scope_of existing world_point word_of state_after groups.priority_of first_entry priority_of rules_of placed by_id number_of children_of expand_of expansion
 second_two = rw (item_Child d [], item_Resize whole high whole, named_is height, item_Child b []) refl
 
 third_is : (h : Rat) → step (derivation_of (farm h)) (after_root h) ≡ after_yard h
@@ -97,7 +97,7 @@ last_is h = refl
 abbrev no_answers : Answers
 no_answers = record { noparent = None; active = None }
 
-abbrev turn_of : Shape → Turn
+abbrev turn_of : Shape → AnsweredTurn
 turn_of s = record { shape = s; answers = no_answers }
 
 -- the rule of the root asks for nothing
@@ -139,7 +139,8 @@ module _ (h : Rat) (second : step (derivation_of (farm h)) (record { shape = roo
   unfolding derive
   members_are = ap (λ (l : List Member). unwrap_or (if nat_lt 4 (length l) then None else Some l) []) reached_four
 
-  one_turn : (n : ℕ) (list : List Member) (m : Member) (turns : List Turn) → reached (derivation_of (farm h)) n ≡ list
+  one_turn : (n : ℕ) (list : List Member) (m : Member) (turns : List AnsweredTurn)
+      → reached (derivation_of (farm h)) n ≡ list
       → next_of (derivation_of (farm h)) list ≡ Some m
       → ((existing waiting : List Shape) → answers_of (of_height h) m.shape existing waiting ≡ no_answers)
       → turns_of (farm h) n ≡ turns → turns_of (farm h) (suc n) ≡ turn_of m.shape ∷ turns

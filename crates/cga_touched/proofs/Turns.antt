@@ -14,18 +14,19 @@ use Rattle.cga_expand.specs.Children.{Member}
 use Rattle.cga_expand.specs.Derivation.{derivation_of}
 use Rattle.cga_expand.specs.Touched.{Answered}
 use Rattle.cga_touched.specs.Words.{same_shape, same_answers}
-use Rattle.cga_touched.specs.Count.{Turn, with_turn, turns_of, is_turn, is_answered_alike}
+use Rattle.cga_touched.specs.Count.{AnsweredTurn, with_turn, turns_of, is_turn, is_answered_alike}
 use Rattle.cga_touched.proofs.Words.{pair, shape_tells, answers_tell}
 use Rattle.cga_touched.proofs.Words as words
 use Rattle.cga_touched.proofs.Lists.{any_found, any_by}
 
 module _ (sources : Sources) where
-  abbrev IsTurn : Turn → Type 0
+  abbrev IsTurn : AnsweredTurn → Type 0
   IsTurn t = Answered sources t.shape t.answers
 
-  listed_by : (list : List Member) (o : Option Member) (turns : List Turn) (n : ℕ)
+  listed_by : (list : List Member) (o : Option Member) (turns : List AnsweredTurn) (n : ℕ)
       → reached (derivation_of sources) n ≡ list → next_of (derivation_of sources) list ≡ o
-      → ((t : Turn) → Among t turns → IsTurn t) → (t : Turn) → Among t (with_turn sources list o turns) → IsTurn t
+      → ((t : AnsweredTurn) → Among t turns → IsTurn t) → (t : AnsweredTurn)
+      → Among t (with_turn sources list o turns) → IsTurn t
   listed_by list None turns n is next before t h = before t h
   listed_by list (Some m) turns n is next before t h = elim h [
     | inl e ↦ subst IsTurn e (n, m, ap (next_of (derivation_of sources)) is ∙ next, refl, ap (λ l. asked (derivation_of sources) l m.shape) is)
@@ -33,18 +34,18 @@ module _ (sources : Sources) where
   ]
 
   -- what is listed was answered
-  pub listed : (n : ℕ) (t : Turn) → Among t (turns_of sources n) → IsTurn t
+  pub listed : (n : ℕ) (t : AnsweredTurn) → Among t (turns_of sources n) → IsTurn t
   unfolding turns_of
   listed zero t h = absurd h
   listed (suc n) t h =
       listed_by (reached (derivation_of sources) n) (next_of (derivation_of sources) (reached (derivation_of sources) n)) (turns_of sources n) n refl refl (λ u g. listed n u g) t h
 
-  later : (list : List Member) (o : Option Member) (turns : List Turn) (t : Turn) → Among t turns
+  later : (list : List Member) (o : Option Member) (turns : List AnsweredTurn) (t : AnsweredTurn) → Among t turns
       → Among t (with_turn sources list o turns)
   later list None turns t h = h
   later list (Some m) turns t h = inr h
 
-  here : (list : List Member) (o : Option Member) (turns : List Turn) (m : Member) → o ≡ Some m
+  here : (list : List Member) (o : Option Member) (turns : List AnsweredTurn) (m : Member) → o ≡ Some m
       → Among (record { shape = m.shape; answers = asked (derivation_of sources) list m.shape })
       (with_turn sources list o turns)
   here list o turns m e = subst (λ p. Among (record { shape = m.shape; answers = asked (derivation_of sources) list m.shape }) (with_turn sources list p turns)) (sym e) (inl refl)
@@ -79,7 +80,7 @@ module _ (sources : Sources) where
       → Among (record { shape = s; answers = answers }) (turns_of sources n)
   answered_listed n quiet s answers (k, m, next, shape, asks) = elim (cases_lt k n) [
     | inl below ↦
-        let is : ◌≡◌ {A = Turn} (record { shape = m.shape; answers = asked (derivation_of sources) (reached (derivation_of sources) k) m.shape }) (record { shape = s; answers = answers }) =
+        let is : ◌≡◌ {A = AnsweredTurn} (record { shape = m.shape; answers = asked (derivation_of sources) (reached (derivation_of sources) k) m.shape }) (record { shape = s; answers = answers }) =
         λ i. record { shape = shape i; answers = (ap (λ x. asked (derivation_of sources) (reached (derivation_of sources) k) x) shape ∙ asks) i } in
         subst (λ t. Among t (turns_of sources n)) is (taken n k m next below)
     | inr above ↦

@@ -15,26 +15,26 @@ use Rattle.cga_touched.specs.Settings.{same_setting}
 -- ---- turns
 
 -- a shape that a step took, and what it was answered
-pub record Turn : Type 0 where
+pub record AnsweredTurn : Type 0 where
   pub shape : Shape
   pub answers : Answers
 
-abbrev pub with_turn : Sources → List Member → Option Member → List Turn → List Turn
+abbrev pub with_turn : Sources → List Member → Option Member → List AnsweredTurn → List AnsweredTurn
 with_turn sources list None turns = turns
 with_turn sources list (Some m) turns =
     record { shape = m.shape; answers = asked (derivation_of sources) list m.shape } ∷ turns
 
 -- those of so many steps, the last first
-unfoldable pub turns_of : Sources → ℕ → List Turn
+unfoldable pub turns_of : Sources → ℕ → List AnsweredTurn
 turns_of sources zero = []
 turns_of sources (suc n) =
     with_turn sources (reached (derivation_of sources) n) (next_of (derivation_of sources) (reached (derivation_of sources) n)) (turns_of sources n)
 
-abbrev pub is_turn : Shape → Answers → Turn → Bool
+abbrev pub is_turn : Shape → Answers → AnsweredTurn → Bool
 is_turn s answers turn = same_shape turn.shape s && same_answers turn.answers answers
 
 -- both lists have a turn of the shape with the same answers
-abbrev pub is_answered_alike : List Turn → List Turn → Shape → Bool
+abbrev pub is_answered_alike : List AnsweredTurn → List AnsweredTurn → Shape → Bool
 is_answered_alike before after s =
     list_any (λ turn. same_shape turn.shape s && list_any (is_turn s turn.answers) after) before
 

@@ -2,7 +2,7 @@
 use Rattle.std.proofs.Common.{◌≡◌, ℕ, zero, suc, ◌+◌, ◌<◌, ◌≤◌, List, [], ◌∷◌, ◌++◌, length, take, drop, true}
 use Rattle.std.proofs.Common.{not, nat_eq, refl, ap, ◌∙◌, Option, Some, None, arith, length-append}
 use Rattle.std.specs.List.{position_or_len}
-use Rattle.cga_trace.specs.Cut.{lacks, place_of, cut_at, cut_of}
+use Rattle.cga_trace.specs.Cut.{lacks, byte_index, cut_at, cut_of}
 use Rattle.cga_trace.proofs.Again.{both}
 pub use Rattle.cga_fraction.proofs.Door.{false_from_not as not_true}
 use Rattle.cga_fraction.proofs.Door.{nat_eq-same as same, nat_lt-same as not_below, nat_lt_from_lt as below_it}
@@ -39,12 +39,12 @@ module _ (byte : ℕ) where
       let b = both (not (nat_eq c byte)) (lacks byte cs) e in
       rw (not_true (nat_eq c byte) b.0) (omega (arith, first_alone cs b.1))
 
-  place_between : (x y : List ℕ) → lacks byte x ≡ true → place_of byte (x ++ byte ∷ y) ≡ Some (length x)
+  place_between : (x y : List ℕ) → lacks byte x ≡ true → byte_index byte (x ++ byte ∷ y) ≡ Some (length x)
   place_between x y e =
       let l : length x < length (x ++ byte ∷ y) = omega (arith, length-append x (byte ∷ y)) in
       rw (first_between x y e, below_it (length x) (length (x ++ byte ∷ y)) l) refl
 
-  place_alone : (x : List ℕ) → lacks byte x ≡ true → place_of byte x ≡ None
+  place_alone : (x : List ℕ) → lacks byte x ≡ true → byte_index byte x ≡ None
   place_alone x e = rw (first_alone x e, not_below (length x)) refl
 
   pub cut_between : (x y : List ℕ) → lacks byte x ≡ true → cut_of byte (x ++ byte ∷ y) ≡ (x, y)
@@ -67,7 +67,7 @@ module _ (byte : ℕ) where
 
   pub cut_shorter : (text : List ℕ) → 0 < length text → length (cut_of byte text).1 < length text
   unfolding cut_of
-  cut_shorter text h = shorter_by text (place_of byte text) h
+  cut_shorter text h = shorter_by text (byte_index byte text) h
 
   -- a word, and what is behind it
   pub cut_word : (x y text word rest : List ℕ) → lacks byte x ≡ true → text ≡ x ++ byte ∷ y

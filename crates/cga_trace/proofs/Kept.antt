@@ -24,7 +24,7 @@ use Rattle.cga_expand.specs.Run.{outcome_of, traced}
 use Rattle.cga_rework.specs.Nodes.{nodes_of, IsBound}
 use Rattle.cga_rework.specs.Ranked.{Ranked, all_placed, placed, ranked_world}
 use Rattle.cga_rework.specs.Rules as rules
-use Rattle.cga_forest.specs.declared.entry.Entry.{Entry}
+use Rattle.cga_forest.specs.declared.slot_entry.SlotEntry.{SlotEntry}
 use Rattle.cga_forest.specs.View.{Seen, slot, present_of}
 use Rattle.cga_forest.specs.Tree.{ForestView, node_at}
 use Rattle.cga_trace.specs.Kept.{shapes_of, rules_of, content, NodesStand, outcome_from, step_of_node, NodesAreTold}
@@ -45,7 +45,7 @@ keeps_of (m ∷ ms) n k h = elim h [
   | inr r ↦ let w = keeps_of ms n k r in (w.0, inr w.1)
 ]
 
-slots_bound : (xs : List (Option Entry)) (c : ℕ) (d : Seen) → present_of (slot xs c) ≡ Some d → c < length xs
+slots_bound : (xs : List (Option SlotEntry)) (c : ℕ) (d : Seen) → present_of (slot xs c) ≡ Some d → c < length xs
 slots_bound [] c d t = absurd (cc)
 slots_bound (x ∷ xs) zero d t = omega arith
 slots_bound (x ∷ xs) (suc c) d t = let r = slots_bound xs c d t in omega (arith, r)

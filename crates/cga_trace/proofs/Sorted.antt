@@ -10,7 +10,7 @@ use Rattle.cga_order.specs.declared.placed.Kind.TheVariants.{Waiting}
 use Rattle.cga_order.proofs.Door as ranks
 use Rattle.cga_derivation.proofs.Door.{first_of-Has, first_of-passes, rises, settled-reached, waiting_kind}
 use Rattle.cga_expand.proofs.Door.{sources_are_derivations}
-use Rattle.cga_order.proofs.Door.{stamps_total}
+use Rattle.cga_order.specs.Total.{stamps_total}
 use Rattle.std.proofs.lemmas.Bool.{and_parts as both, cases_Bool as either}
 use Rattle.cga_derivation.specs.Derivation.{is_next, next_of, reached, expanded, NothingWaits}
 use Rattle.cga_derivation.specs.Stamps.{priorities_down, stamp_in, AllEarlier, RisesIn}

@@ -1,9 +1,9 @@
 //! Cutting a text.
 ghost use Rattle.std.specs.Prelude.{◌≡◌, drop};
-ghost use Rattle.cga_trace.specs.Cut.{cut_of, place_of};
+ghost use Rattle.cga_trace.specs.Cut.{cut_of, byte_index};
 
-fn place_of(text: &[u8], byte: u8) -> Option<usize>
-    ensures { result ≡ place_of byte text.now }
+fn byte_index(text: &[u8], byte: u8) -> Option<usize>
+    ensures { result ≡ byte_index byte text.now }
 {
     text.iter().position(|b| *b == byte)
 }
@@ -14,7 +14,7 @@ pub fn cut(text: &[u8], byte: u8) -> (&[u8], &[u8])
     ensures front { result.0.now ≡ (cut_of byte text.now).0 }
     ensures rest { result.1.now ≡ (cut_of byte text.now).1 }
 {
-    let Some(at) = place_of(text, byte) else {
+    let Some(at) = byte_index(text, byte) else {
         return (text, b"");
     };
     let (front, rest) = text.split_at(at);

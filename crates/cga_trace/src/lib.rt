@@ -14,8 +14,8 @@ pub mod limits;
 mod reading;
 mod step_words;
 mod text;
+mod traced_turn;
 mod tracing;
-mod turn;
 mod turns;
 mod words;
 

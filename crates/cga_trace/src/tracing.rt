@@ -10,7 +10,7 @@ ghost use Rattle.cga_trace.specs.Order.{IsKnown, IsStepOf, IsTurn};
 ghost use Rattle.cga_trace.specs.Text.{AreSteps};
 
 use crate::fields::is_step;
-use crate::turn::Turn;
+use crate::traced_turn::TracedTurn;
 use crate::turns::{sort_turns, turns_of};
 use cga_forest::{Forest, Node};
 use cga_fraction::{List, NoMemory};
@@ -59,7 +59,11 @@ fn step_at(alloc: Global, forest: &Forest, id: NodeId) -> Result<TraceStep, NoMe
 }
 
 // The steps of these turns, one after the other.
-fn steps_of(alloc: Global, forest: &Forest, turns: &[Turn<'_>]) -> Result<Vec<TraceStep>, NoMemory>
+fn steps_of(
+    alloc: Global,
+    forest: &Forest,
+    turns: &[TracedTurn<'_>],
+) -> Result<Vec<TraceStep>, NoMemory>
     requires turns { All (IsTurn forest.now) turns.now }
     ensures steps { IfOk result (λ steps. AllZip (IsStepOf forest.now) turns.now steps.items) }
     ensures fields { IfOk result (λ steps. AreSteps steps.items) }

@@ -7,7 +7,7 @@ use Rattle.cga_rule.specs.declared.grammar.Group.{Group}
 use Rattle.cga_check.specs.Groups.{group, mentions_attribute}
 use Rattle.cga_expr.specs.Names.{attribute_of}
 use Rattle.cga_expand.specs.Settings.{Setting, mentions, setting_of}
-use Rattle.cga_same.specs.Agreement.{IsSameSetting, SameValues}
+use Rattle.cga_depend.specs.Agreement.{IsSameSetting, SameValues}
 use Rattle.cga_fraction.proofs.Door.{false-not-true as not_so}
 
 if_same : (b : Bool) (x y : Option Rat) → (b ≡ true → x ≡ y) → (if b then x else None) ≡ (if b then y else None)

@@ -13,7 +13,7 @@ use Rattle.cga_word.specs.declared.target.Target.TheVariants.{Noparent, Active}
 use Rattle.cga_rule.specs.declared.grammar.Grammar.{Grammar}
 use Rattle.cga_check.specs.Uses.{same_name}
 use Rattle.cga_order.specs.World.{Among, is_instance}
-use Rattle.cga_agenda.specs.Loop.{IsReady, State}
+use Rattle.cga_agenda.specs.Loop.{IsReady, LoopState}
 use Rattle.cga_agenda.specs.Record.{Drawn}
 use Rattle.cga_agenda.specs.Work.{IsBegun}
 use Rattle.cga_depend.specs.Pairs.{DependentsView, nodes_in}
@@ -217,7 +217,7 @@ module _ {old new : Sources} {first v : ForestView} {d : DependentsView} {went c
       × (map told_ranked list ≡ drawn_of went)
   lost = lists_lost V T (λ c b x y at of same. (same_node first start.first_laws c b x y at of (ap (λ (s : Shape). s.lot) same, ap (λ (s : Shape). s.path) same)).0) went start.roots.went
 
-  abbrev pub first_state : State (Ranked Shape) Answers ShapeFault Primitive
+  abbrev pub first_state : LoopState (Ranked Shape) Answers ShapeFault Primitive
   first_state = record { nodes = kept_nodes v; queued = begins.1.0; gone = lost.0; come = [] }
 
   pub is_ready : IsReady (the_edit old new) (kept_nodes first) first_state (length (the_edit old new).new.roots)

@@ -19,12 +19,6 @@ use Rattle.cga_update.specs.Last.{IsTold}
 use Rattle.cga_update.specs.Queue.{chains_of}
 use Rattle.cga_order.proofs.Door.{Among-index as among_at}
 
--- no node of the mark asks and is one of these
-abbrev pub NobodyLeft : ForestView → (Seen → Type 0) → Type 0
-NobodyLeft w IsAfter =
-    (c : ℕ) (d : Seen) → node_at w c ≡ Some d → IsSome (marked_at w c) → is_instance d.node.kind ≡ false
-    → d.node.asks ≡ true → IsAfter d → ⊥
-
 -- ---- the entry of a symbol in the dependents
 
 entry_first : (name : List ℕ) (c : ℕ) (e : List ℕ × List ℕ) (entries : List (List ℕ × List ℕ))

@@ -13,7 +13,7 @@ use Rattle.cga_expand.specs.Settings.{Setting, setting_of}
 use Rattle.cga_forest.specs.Tree.{ForestView}
 use Rattle.cga_queue.specs.Agenda.{AgendaView, Grows, HasAll}
 use Rattle.cga_queue.proofs.Door.{all_kept}
-use Rattle.cga_same.specs.Changed.{IsNoted, priority_at}
+use Rattle.cga_depend.specs.Changed.{IsNoted, priority_at}
 use Rattle.cga_update.proofs.Agreeing.{setting_is_same}
 use Rattle.cga_update.specs.Near.{IsAny, IsChangedFor, IsParentOf, IsPricedFor, KeepsPriority}
 use Rattle.cga_update.specs.Queue.{chains_of}

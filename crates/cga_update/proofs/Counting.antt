@@ -2,7 +2,7 @@
 use Rattle.std.proofs.Common.{◌≡◌, ◌+◌, ℕ, zero, suc, List, [], ◌∷◌, length, cond, not, refl, sym, ap, ◌∙◌, subst, Option, Some, None, Bool, true, false, arith}
 use Rattle.std.specs.Prelude.{if◌then◌else◌}
 use Rattle.cga_tree.specs.Tree.{View}
-use Rattle.cga_forest.specs.declared.entry.Entry.{Entry}
+use Rattle.cga_forest.specs.declared.slot_entry.SlotEntry.{SlotEntry}
 use Rattle.cga_forest.specs.Count.{tally}
 use Rattle.cga_forest.specs.View.{is_shown, present_of, seen, slot}
 use Rattle.cga_forest.specs.Tree.{node_at}
@@ -20,7 +20,7 @@ from_front : {X : Type 0} (T : View X) (n : ℕ) → count_of T (suc n) ≡ one_
 from_front T zero = refl
 from_front T (suc n) = let e = from_front T n in omega (arith, e)
 
-shown_is : (e : Option Entry) → one_if (present_of e) ≡ cond (is_shown e) 1 0
+shown_is : (e : Option SlotEntry) → one_if (present_of e) ≡ cond (is_shown e) 1 0
 shown_is None = refl
 shown_is (Some e) = by_flag e.aside
   where
@@ -28,7 +28,7 @@ shown_is (Some e) = by_flag e.aside
     by_flag true = refl
     by_flag false = refl
 
-hidden : (e : Option Entry) (n : ℕ) → cond (is_shown e) 1 0 + n ≡ 0 → present_of e ≡ None
+hidden : (e : Option SlotEntry) (n : ℕ) → cond (is_shown e) 1 0 + n ≡ 0 → present_of e ≡ None
 hidden None n h = refl
 hidden (Some e) n h = by_flag e.aside h
   where
@@ -37,12 +37,13 @@ hidden (Some e) n h = by_flag e.aside h
     by_flag false h = absurd (omega (arith, h))
 
 -- where the count is 0 there is none
-pub none_shown : (slots : List (Option Entry)) → tally is_shown slots ≡ 0 → (c : ℕ) → present_of (slot slots c) ≡ None
+pub none_shown : (slots : List (Option SlotEntry)) → tally is_shown slots ≡ 0 → (c : ℕ)
+    → present_of (slot slots c) ≡ None
 none_shown [] h c = refl
 none_shown (x ∷ xs) h zero = hidden x (tally is_shown xs) h
 none_shown (x ∷ xs) h (suc c) = none_shown xs (omega (arith, h)) c
 
-pub count_is : (slots : List (Option Entry))
+pub count_is : (slots : List (Option SlotEntry))
     → count_of (λ c. present_of (slot slots c)) (length slots) ≡ tally is_shown slots
 count_is [] = refl
 count_is (x ∷ xs) = from_front (λ c. present_of (slot (x ∷ xs) c)) (length xs) ∙ (λ i. shown_is x i + count_is xs i)

@@ -13,7 +13,7 @@ use Rattle.cga_shape.specs.declared.sources.Sources.{Sources}
 use Rattle.cga_order.specs.Agenda as kept
 use Rattle.cga_order.specs.World.{is_instance}
 use Rattle.cga_agenda.specs.Edit.{Edit}
-use Rattle.cga_agenda.specs.Loop.{State, IsDone}
+use Rattle.cga_agenda.specs.Loop.{LoopState, IsDone}
 use Rattle.cga_agenda.specs.Work.{IsWorking, NoneQueued}
 use Rattle.cga_rework.specs.City as tree
 use Rattle.cga_rework.specs.Ranked.{Ranked}
@@ -104,7 +104,7 @@ same_stands sources v t same stood =
     let again : StandsAgain Node Shape Answers Setting ShapeFault Primitive = stands_again in
     again.back (shapes_of sources) content (rules_of sources) (asks_by sources.grammar) (node_at v) (node_at t) same stood
 
-module _ (w : Work) (edit : Edit (Ranked Shape) Answers Setting ShapeFault Primitive) (s : State (Ranked Shape) Answers ShapeFault Primitive) (means : Means w edit s) where
+module _ (w : Work) (edit : Edit (Ranked Shape) Answers Setting ShapeFault Primitive) (s : LoopState (Ranked Shape) Answers ShapeFault Primitive) (means : Means w edit s) where
   abbrev Nodes : Type 0
   Nodes = List (kept.Node (Ranked Shape) Answers ShapeFault Primitive)
 

@@ -7,7 +7,7 @@ use Rattle.cga_forest.specs.Tree.{ForestView}
 use Rattle.cga_queue.specs.Agenda.{AgendaView, Chains, ComesAfter, Grows, HasAll}
 use Rattle.cga_queue.proofs.Door.{all_kept, grows_by, grows_on}
 use Rattle.cga_update.specs.Askers.{IsAsker, IsOneOf}
-use Rattle.cga_update.specs.Follow.{IsFollowed}
+use Rattle.cga_update.specs.Follow.{HasLaters, IsFollowed}
 use Rattle.cga_update.specs.Queue.{chains_of}
 use Rattle.cga_update.proofs.NearMoved.{asker_came, asker_went}
 
@@ -58,3 +58,19 @@ module _ (v : ForestView) (of : ℕ) (change : Change) (nobody : Bool) where
     met_went = λ not. (let z : true ≡ false = sym is ∙ not in absurd (cc));
     met_came = λ not. (let z : true ≡ false = sym is ∙ not in absurd (cc));
   }
+
+  -- what more comes later changes nothing of it
+  pub followed_more : (a b d : AgendaView) → IsFollowed v of change nobody a b → Grows D (ComesAfter D b.mode of) b d
+      → IsFollowed v of change nobody a d
+  followed_more a b d f more =
+      let late = subst (λ (m : Mode). Grows D (ComesAfter D m of) b d) f.grows.mode more in
+      let P = MayCome a.mode in record {
+        grows = grows_on D P a b d f.grows (grows_by D (ComesAfter D a.mode of) P b d (λ c p. inr p) late);
+        came = all_kept D (IsOneOf change.came) (ComesAfter D a.mode of) b d late f.came;
+        met_went = λ not. all_kept D (IsMet change.went a.mode) (ComesAfter D a.mode of) b d late (f.met_went not);
+        met_came = λ not. all_kept D (IsMet change.came a.mode) (ComesAfter D a.mode of) b d late (f.met_came not);
+      }
+
+  pub laters_of : (a b d : AgendaView) (was : Bool) → IsFollowed v of change nobody a b
+      → (was ≡ true) ⊎ HasLaters v of b.mode d → (was ≡ true) ⊎ HasLaters v of a.mode d
+  laters_of a b d was f h = subst (λ (m : Mode). (was ≡ true) ⊎ HasLaters v of m d) f.grows.mode h

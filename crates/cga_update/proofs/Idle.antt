@@ -1,7 +1,7 @@
 -- A turn where no node is on the agenda.
 use Rattle.std.proofs.Common.{ℕ, refl, sym, ◌∙◌, subst, inl, inr}
 use Rattle.cga_agenda.specs.Edit.{Edit}
-use Rattle.cga_agenda.specs.Loop.{IsIdle, State}
+use Rattle.cga_agenda.specs.Loop.{IsIdle, LoopState}
 use Rattle.cga_agenda.specs.Work.{NoneQueued}
 use Rattle.cga_word.specs.declared.answers.Answers.{Answers}
 use Rattle.cga_word.specs.declared.primitive.Primitive.{Primitive}
@@ -23,7 +23,7 @@ abbrev pub TheEdit : Type 0
 TheEdit = Edit (Ranked Shape) Answers Setting ShapeFault Primitive
 
 abbrev pub TheState : Type 0
-TheState = State (Ranked Shape) Answers ShapeFault Primitive
+TheState = LoopState (Ranked Shape) Answers ShapeFault Primitive
 
 module _ (was : Work) (rest : AgendaView) (edit : TheEdit) (s : TheState) (means : Means was edit s) (same : SameOn (chains_of was.forest) was.agenda rest) where
   abbrev passed : Work
@@ -43,7 +43,7 @@ module _ (was : Work) (rest : AgendaView) (edit : TheEdit) (s : TheState) (means
     queued = λ c d t. (λ q. same.there c ((means.queued c d t).0 q), λ q. (means.queued c d t).1 (same.back c q));
     due = λ b c x d there on here came solid less. same.there c (means.due b c x d there (same.back b on) here came solid less);
     remembered = λ c is. same.there c (means.remembered c is);
-    all_came = means.all_came;
+    all_queued = λ is b c x d there on here asks solid less. same.there c (means.all_queued is b c x d there (same.back b on) here asks solid less);
     priced = means.priced;
     last = means.last;
     silent = means.silent;

@@ -1,11 +1,11 @@
 -- The agenda after a turn, in the words of the theory: what was on it and stays, what came, and who meets what changed.
 use Rattle.std.proofs.Common.{◌≡◌, ℕ, List, refl, sym, ap, ◌∙◌, subst, inl, inr, Some, None, Bool, true, false}
-use Rattle.std.specs.Prelude.{is_some, if◌then◌else◌}
+use Rattle.std.specs.Prelude.{IsSome, is_some, if◌then◌else◌}
 use Rattle.std.specs.declared.cmp.Ordering.TheVariants.{Less}
 use Rattle.std.specs.Ordering.{is_lt}
 use Rattle.cga_frame.specs.Box.{box_of, meets}
 use Rattle.cga_fraction.proofs.Door.{Less_from_is_lt as lt_is, cases_Option as option_cases, eq_or_ne as nat_cases}
-use Rattle.cga_order.proofs.Door.{stamp_total}
+use Rattle.cga_order.specs.Total.{stamp_total}
 use Rattle.cga_queue.proofs.Door.{on_from, on_to}
 use Rattle.std.proofs.lemmas.Bool.{cases_Bool as bool_cases}
 use Rattle.cga_order.specs.Stamp.{stamp_cmp}
@@ -22,11 +22,10 @@ use Rattle.cga_forest.specs.Tree.{ForestView, marked_at, node_at}
 use Rattle.cga_rework.specs.Agenda.{IsMoved}
 use Rattle.cga_queue.specs.Agenda.{AgendaView, ComesAfter, HasAll, is_later}
 use Rattle.cga_update.specs.Askers.{IsAsker, IsOneOf}
-use Rattle.cga_update.specs.Due.{ComersAreDue}
+use Rattle.cga_update.specs.Due.{AreDue, HasCome}
 use Rattle.cga_update.specs.Edit.{content, meets_box, shapes_of}
 use Rattle.cga_update.specs.Follow.{IsFollowed}
 use Rattle.cga_update.specs.Queue.{chains_of, due_chain, on_of}
-use Rattle.cga_update.proofs.Bounding.{NobodyLeft}
 use Rattle.cga_update.proofs.DueNodes.{due_is, due_of, may_be_on}
 use Rattle.cga_update.proofs.Moves.{chain_at, not_itself, on_node, some_one}
 
@@ -79,8 +78,8 @@ module _ (v w : ForestView) (new : Sources) (id : ℕ) (news : List Node) (e now
 
   -- comers: what came since the mark and comes later is on the agenda before
   module _ (was after : AgendaView) (mode : was.mode ≡ new.mode) (change : Change) (went : ListsMoved (node_at v) (node_at w) change.went) (came : ListsMoved (node_at w) (node_at v) change.came) (nobody : Bool) (followed : IsFollowed w id change nobody was after)
-      (comers : (c : ℕ) (d : Seen) → node_at v c ≡ Some d → marked_at w c ≡ None → is_instance d.node.kind ≡ false → IsAfter d → on_of v was c ≡ true) (left : nobody ≡ true → NobodyLeft w IsAfter) where
-    later_in : (c : ℕ) (d : Seen) → node_at w c ≡ Some d → is_instance d.node.kind ≡ false
+      (comers : (c : ℕ) (d : Seen) → node_at v c ≡ Some d → marked_at w c ≡ None → is_instance d.node.kind ≡ false → IsAfter d → on_of v was c ≡ true) (left : nobody ≡ true → (c : ℕ) (d : Seen) → node_at v c ≡ Some d → IsSome (marked_at w c) → is_instance d.node.kind ≡ false → d.node.asks ≡ true → IsAfter d → on_of v was c ≡ true) where
+    pub later_in : (c : ℕ) (d : Seen) → node_at w c ≡ Some d → is_instance d.node.kind ≡ false
         → stamp_cmp new.mode (chain_kept e.node) (chain_kept d.node) ≡ Less → ComesAfter (chains_of w) was.mode id c
     later_in c d here solid less =
         (λ i. is_later (mode i) (due_is (node_at w id) now replaced.is still i) (due_is (node_at w c) d here solid i)) ∙ ap (λ y. is_lt (stamp_cmp new.mode y (chain_kept d.node))) chain ∙ ap is_lt less
@@ -95,15 +94,19 @@ module _ (v w : ForestView) (new : Sources) (id : ℕ) (news : List Node) (e now
         → on_of w after c ≡ true
     came_on c d none here solid = followed.came c (moved_of c d, (came.each (moved_of c d)).1 (c, d, here, none, refl), refl) (may_be_on w c d here solid)
 
-    -- so it is on it after, as is what comes now
-    comer_on : (c : ℕ) (d : Seen) → node_at w c ≡ Some d → marked_at w c ≡ None → is_instance d.node.kind ≡ false
-        → IsAfter d → on_of w after c ≡ true
-    comer_on c d here unmarked solid less = elim (option_cases (node_at v c)) [
+    -- what was on it if it was there is on it after, as is what comes now
+    pub later_on : (c : ℕ) (d : Seen) → node_at w c ≡ Some d → is_instance d.node.kind ≡ false → IsAfter d
+        → (node_at v c ≡ Some d → on_of v was c ≡ true) → on_of w after c ≡ true
+    later_on c d here solid less on = elim (option_cases (node_at v c)) [
       | inl none ↦ came_on c d none here solid
       | inr p ↦
           let there : node_at v c ≡ Some d = p.1 ∙ ap Some (same_later c p.0 d p.1 here less) in
-          followed.grows.kept c (still_on was c d d there here (comers c d there unmarked solid less))
+          followed.grows.kept c (still_on was c d d there here (on there))
     ]
+
+    pub comer_on : (c : ℕ) (d : Seen) → node_at w c ≡ Some d → HasCome w c d → is_instance d.node.kind ≡ false
+        → IsAfter d → on_of w after c ≡ true
+    comer_on c d here unmarked solid less = later_on c d here solid less (λ there. comers c d there unmarked solid less)
 
     -- who asks and meets the box of one of the moved is on the agenda: it came, or was there at the mark
     seen_by : (list : List moved.Moved) (m : moved.Moved) → Among m list
@@ -117,7 +120,7 @@ module _ (v w : ForestView) (new : Sources) (id : ℕ) (news : List Node) (e now
     seen_by list m among has c d here solid asks meet less = elim (option_cases (marked_at w c)) [
       | inl unmarked ↦ comer_on c d here unmarked solid less
       | inr p ↦ elim (bool_cases nobody) [
-        | inl is ↦ absurd (left is c d here (ap is_some p.1) solid asks less)
+        | inl is ↦ later_on c d here solid less (λ there. left is c d there (ap is_some p.1) solid asks less)
         | inr not ↦
             let k : IsAsker w list c = record { seen = d; there = here; marked = ap is_some p.1; asks = asks; one = m; among = among; near = meet } in
             has not c (k, later_in c d here solid less) (may_be_on w c d here solid)
@@ -169,8 +172,11 @@ module _ (v w : ForestView) (new : Sources) (id : ℕ) (news : List Node) (e now
       | inr r ↦ elim r [ inl none ↦ born c d none here | inr less ↦ less ]
     ]
 
-    -- so what came is due after, too
-    pub still_due : ((c : ℕ) (d : Seen) → node_at v c ≡ None → node_at w c ≡ Some d → IsAfter d)
-        → ((c : ℕ) (x : Seen) → node_at v c ≡ Some x → on_of v was c ≡ true → IsAfter x) → ComersAreDue new.mode w after
-    still_due born left b c y d there on here unmarked solid less =
-        comer_on c d here unmarked solid ((stamp_total new.mode).trans (chain_kept e.node) (chain_kept y.node) (chain_kept d.node) (all_after born left b y there on) less)
+    -- so what is on it if it comes later than the node is due after, too
+    pub still_due : (P : ℕ → Seen → Type 0)
+        → ((c : ℕ) (d : Seen) → node_at w c ≡ Some d → P c d → is_instance d.node.kind ≡ false → IsAfter d
+        → on_of w after c ≡ true)
+        → ((c : ℕ) (d : Seen) → node_at v c ≡ None → node_at w c ≡ Some d → IsAfter d)
+        → ((c : ℕ) (x : Seen) → node_at v c ≡ Some x → on_of v was c ≡ true → IsAfter x) → AreDue P new.mode w after
+    still_due P has born left b c y d there on here one solid less =
+        has c d here one solid ((stamp_total new.mode).trans (chain_kept e.node) (chain_kept y.node) (chain_kept d.node) (all_after born left b y there on) less)

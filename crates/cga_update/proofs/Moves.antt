@@ -5,7 +5,7 @@ use Rattle.std.proofs.lemmas.Cmp.{tied_itself}
 use Rattle.cga_order.specs.Chain.{Chain}
 use Rattle.cga_order.specs.Stamp.{stamp_cmp}
 use Rattle.cga_order.specs.World.{is_instance}
-use Rattle.cga_order.proofs.Door.{stamp_total}
+use Rattle.cga_order.specs.Total.{stamp_total}
 use Rattle.cga_queue.proofs.Door.{on_from}
 use Rattle.cga_shape.specs.declared.sources.Sources.{Sources}
 use Rattle.cga_forest.specs.Node.{chain_kept}
@@ -14,7 +14,7 @@ use Rattle.cga_forest.specs.Tree.{ForestView, marked_at, node_at}
 use Rattle.cga_rework.specs.Agenda.{IsTaken}
 use Rattle.cga_queue.specs.Agenda.{AgendaView, Chains, IsLeast}
 use Rattle.cga_queue.specs.Remembered.{AreOn, IsRemembered, RememberedView}
-use Rattle.cga_update.specs.Due.{ComersAreDue}
+use Rattle.cga_update.specs.Due.{AreDue}
 use Rattle.cga_update.specs.Edit.{content, shapes_of}
 use Rattle.cga_update.specs.Queue.{chains_of, on_of}
 use Rattle.cga_update.proofs.DueNodes.{due_is, due_of}
@@ -69,18 +69,18 @@ taken_at v new old rest id x e mode least here =
     let z = is_taken v new old rest id x mode least in
     subst (λ (d : Seen). (is_instance d.node.kind ≡ false) × IsTaken (shapes_of new) content (node_at v) id d (on_of v old) (on_of v rest)) (some_one (node_at v id) z.0 e z.2.here here) (z.1, z.2)
 
--- a node that came since the mark, is no instance and comes later than e
-pub record IsComer (v : ForestView) (new : Sources) (e : Seen) (c : ℕ) (d : Seen) : Type 0 where
+-- a node of which P tells, that is no instance and comes later than e
+pub record IsLater (P : ℕ → Seen → Type 0) (v : ForestView) (new : Sources) (e : Seen) (c : ℕ) (d : Seen) : Type 0 where
   pub here : node_at v c ≡ Some d
-  pub came : marked_at v c ≡ None
+  pub one : P c d
   pub solid : is_instance d.node.kind ≡ false
   pub less : stamp_cmp new.mode (chain_kept e.node) (chain_kept d.node) ≡ Less
 
 -- it stays on the agenda when e is taken
-pub comers_stay : (v : ForestView) (new : Sources) (old rest : AgendaView) (id : ℕ) (x : Chain) (e : Seen)
-    → IsLeast (chains_of v) old rest id x → node_at v id ≡ Some e → ComersAreDue new.mode v old
-    → (c : ℕ) (d : Seen) → IsComer v new e c d → on_of v rest c ≡ true
-comers_stay v new old rest id x e least at due c d k = elim (least.stay c (due id c e d at least.there k.here k.came k.solid k.less)) [
+pub stay_due : (P : ℕ → Seen → Type 0) (v : ForestView) (new : Sources) (old rest : AgendaView) (id : ℕ) (x : Chain)
+    (e : Seen) → IsLeast (chains_of v) old rest id x → node_at v id ≡ Some e → AreDue P new.mode v old
+    → (c : ℕ) (d : Seen) → IsLater P v new e c d → on_of v rest c ≡ true
+stay_due P v new old rest id x e least at due c d k = elim (least.stay c (due id c e d at least.there k.here k.one k.solid k.less)) [
   | inl same ↦ absurd (not_itself (chain_kept e.node) new (subst (λ (y : Seen). stamp_cmp new.mode (chain_kept e.node) (chain_kept y.node) ≡ Less) (some_one (node_at v c) d e k.here (ap (node_at v) same ∙ at)) k.less))
   | inr on ↦ on
 ]

@@ -1,18 +1,19 @@
 -- Who asks near what moved.
 use Rattle.std.proofs.Common.{◌≡◌, inl, inr, ℕ, List, [], ◌∷◌, ◌++◌, Bool, true, false, ◌||◌, Option, Some, None, refl, sym, ap, subst, ◌∙◌}
 use Rattle.std.specs.Prelude.{is_some}
-use Rattle.std.specs.List.{list_any}
+use Rattle.std.specs.List.{filter, list_any}
 use Rattle.std.proofs.lemmas.Bool.{and_from, and_parts, or_left, or_right}
 use Rattle.cga_frame.specs.Box.{Box, box_of, meets}
 use Rattle.cga_order.specs.World.{Among}
 use Rattle.cga_index.specs.Near.{ListsNear}
-use Rattle.cga_index.proofs.Door.{in_lasting}
+use Rattle.cga_index.specs.Tree.{Member, all_nodes}
+use Rattle.cga_index.proofs.Door.{caller_in, in_lasting}
 use Rattle.cga_forest.specs.declared.moved.Moved.{Moved}
 use Rattle.cga_forest.specs.View.{Seen}
 use Rattle.cga_forest.specs.Tree.{ForestView, IsForest, marked_at, node_at}
 use Rattle.cga_forest.specs.Walked.{asks_of, forest_tree, lasting_tree, own_of, was_marked}
 use Rattle.cga_forest.proofs.Door.{inside}
-use Rattle.cga_update.specs.Askers.{IsAsker, ListsAskers, boxes_of}
+use Rattle.cga_update.specs.Askers.{IsAsker, IsLasting, ListsAskers, boxes_of}
 use Rattle.cga_update.proofs.Members.{among_member, member_among}
 use Rattle.cga_order.proofs.Door.{Among-left as among_left, Among-right as among_right}
 
@@ -65,6 +66,14 @@ lists_askers v f moved list lists = record {
         near = ap (λ o. meets (own_of o) (box_of m.0.scope)) (sym d.1) ∙ m.2;
       };
 }
+
+-- of all nodes those of the mark that ask
+pub lists_lasting : (v : ForestView) → IsForest v → (list : List ℕ)
+    → list ≡ filter (lasting_tree v).asks (all_nodes (forest_tree v)) → (c : ℕ) → IsLasting v c → Among c list
+lists_lasting v f list is c k =
+    let asks = and_from (is_some (marked_at v c)) (asks_of (node_at v c)) k.marked (ap asks_of k.there ∙ k.asks) in
+    let among = caller_in (lasting_tree v).asks (all_nodes (forest_tree v)) c (inside v f c (k.seen, k.there)) asks in
+    member_among list c (subst (λ l. Member l c) (sym is) among)
 
 -- the boxes of both lists
 pub boxes_join : (went came : List Moved) → boxes_of (went ++ came) ≡ boxes_of went ++ boxes_of came

@@ -8,7 +8,7 @@ use Rattle.cga_order.specs.World.{Has}
 use Rattle.cga_order.specs.Agenda.{members_of}
 use Rattle.cga_order.specs.declared.placed.Kind.{Kind}
 use Rattle.cga_rework.specs.Ranked.{Ranked}
-use Rattle.cga_forest.specs.declared.entry.Entry.{Entry}
+use Rattle.cga_forest.specs.declared.slot_entry.SlotEntry.{SlotEntry}
 use Rattle.cga_forest.specs.View.{Seen, slot, present_of}
 use Rattle.cga_fraction.proofs.Door.{eq_or_ne as nat_cases}
 use Rattle.cga_forest.specs.Tree.{ForestView, node_at}
@@ -49,7 +49,7 @@ module _ (T : ℕ → Option Seen) where
         | inr more ↦ inr (rec (omega (arith, lt, more)))
       ]
 
-slots_bound : (xs : List (Option Entry)) (c : ℕ) (d : Seen) → present_of (slot xs c) ≡ Some d → c < length xs
+slots_bound : (xs : List (Option SlotEntry)) (c : ℕ) (d : Seen) → present_of (slot xs c) ≡ Some d → c < length xs
 slots_bound [] c d t = absurd (cc)
 slots_bound (x ∷ xs) zero d t = omega arith
 slots_bound (x ∷ xs) (suc c) d t = let r = slots_bound xs c d t in omega (arith, r)

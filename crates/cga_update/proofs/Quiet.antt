@@ -1,7 +1,7 @@
 -- A turn that changes nothing but the agenda is a turn of the work of the theory.
 use Rattle.std.proofs.Common.{◌≡◌, ◌≢◌, ◌+◌, ℕ, [], length, refl, sym, ap, ◌∙◌, subst, Bool, false}
 use Rattle.std.proofs.lemmas.List.{append-nil}
-use Rattle.cga_order.proofs.Door.{stamp_total}
+use Rattle.cga_order.specs.Total.{stamp_total}
 use Rattle.cga_rework.proofs.Door.{lists_are_changes, quiet_turns}
 use Rattle.cga_order.specs.Chain.{Chain}
 use Rattle.cga_order.specs.World.{is_instance}
@@ -21,13 +21,14 @@ use Rattle.cga_forest.specs.Tree.{node_at}
 use Rattle.cga_update.specs.declared.work.Work.{Work}
 use Rattle.cga_queue.specs.Agenda.{AgendaView, IsLeast}
 use Rattle.cga_queue.specs.Remembered.{IsRemembered, RememberedView}
+use Rattle.cga_update.specs.Due.{AsksStill, HasCome}
 use Rattle.cga_update.specs.Edit.{asks_by, content, kept_nodes, ranked, rules_of, shapes_of, the_edit}
 use Rattle.cga_update.specs.Means.{Means}
 use Rattle.cga_update.specs.Queue.{chains_of, on_of}
 use Rattle.cga_update.specs.Turned.{IsQuiet}
 use Rattle.cga_update.proofs.Edits.{by_symbol, is_rules_edit}
 use Rattle.cga_update.proofs.Idle.{TheEdit, TheState}
-use Rattle.cga_update.proofs.Moves.{comers_stay, remembered_rest, taken_at}
+use Rattle.cga_update.proofs.Moves.{remembered_rest, stay_due, taken_at}
 use Rattle.cga_update.proofs.Nodes.{kept_bound}
 
 module _ (was now : Work) (rest : AgendaView) (id : ℕ) (x : Chain) (edit : TheEdit) (s : TheState) (means : Means was edit s) (least : IsLeast (chains_of was.forest) was.agenda rest id x) (less : RememberedView) (forgot : (c : ℕ) → IsRemembered less c → (c ≢ id) × IsRemembered was.remembered c) where
@@ -95,10 +96,11 @@ module _ (was now : Work) (rest : AgendaView) (id : ℕ) (x : Chain) (edit : The
       nodes = refl;
       underway = result.0;
       queued = result.1.1;
-      due = λ b c y d there on here came solid less. comers_stay was.forest new was.agenda rest id x e least turn.here means.due c d
-          (record { here = here; came = came; solid = solid; less = (stamp_total new.mode).trans (chain_kept e.node) (chain_kept y.node) (chain_kept d.node) (taken.1.left b y there on).2 less });
+      due = λ b c y d there on here came solid less. stay_due (HasCome was.forest) was.forest new was.agenda rest id x e least turn.here means.due c d
+          (record { here = here; one = came; solid = solid; less = (stamp_total new.mode).trans (chain_kept e.node) (chain_kept y.node) (chain_kept d.node) (taken.1.left b y there on).2 less });
       remembered = remembered_rest (chains_of was.forest) was.remembered less was.agenda rest id x least means.remembered forgot;
-      all_came = means.all_came;
+      all_queued = λ is b c y d there on here asks solid less. stay_due (AsksStill was.forest) was.forest new was.agenda rest id x e least turn.here (means.all_queued is) c d
+          (record { here = here; one = asks; solid = solid; less = (stamp_total new.mode).trans (chain_kept e.node) (chain_kept y.node) (chain_kept d.node) (taken.1.left b y there on).2 less });
       priced = means.priced;
       last = means.last;
       silent = means.silent;

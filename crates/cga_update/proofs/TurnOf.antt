@@ -18,10 +18,10 @@ use Rattle.cga_expand.specs.Expand.{expand_of}
 use Rattle.cga_forest.specs.Placing.{Outcome, emitted}
 use Rattle.cga_forest.specs.View.{Seen}
 use Rattle.cga_forest.specs.Tree.{node_at}
-use Rattle.cga_same.specs.declared.changed.Facts.{Facts}
+use Rattle.cga_depend.specs.declared.changed.Facts.{Facts}
 use Rattle.cga_update.specs.declared.work.Work.{Work}
-use Rattle.cga_same.specs.Both.{BothGrammars}
-use Rattle.cga_same.specs.Changed.{AreFacts}
+use Rattle.cga_depend.specs.Both.{BothGrammars}
+use Rattle.cga_depend.specs.Changed.{AreFacts}
 use Rattle.cga_update.specs.Edit.{kept_nodes, ranked, the_edit}
 use Rattle.cga_update.specs.Plain.{IsPlain}
 use Rattle.cga_update.specs.Turned.{HasPlaced, IsAgain, IsTurned, MayTurn}

@@ -1,6 +1,6 @@
 -- A turn in code is a turn of the work of the theory.
 use Rattle.std.proofs.Common.{◌≡◌, ◌≢◌, ℕ, List, ◌++◌, ◌+◌, length, map, refl, sym, ap, ◌∙◌, subst, ◌⊎◌, inl, inr, Option, Some, None, Bool, true, false, not, Bor}
-use Rattle.std.specs.Prelude.{◌&&◌, is_some, if◌then◌else◌}
+use Rattle.std.specs.Prelude.{◌&&◌, IsSome, if◌then◌else◌}
 use Rattle.cga_word.specs.declared.primitive.Primitive.{Primitive}
 use Rattle.std.specs.declared.cmp.Ordering.TheVariants.{Less}
 use Rattle.cga_fraction.proofs.Door.{None-not-Some as none_some, cases_Option as option_cases, eq_or_ne as nat_cases, map-append as map_both}
@@ -32,8 +32,8 @@ use Rattle.cga_rework.specs.Turn as theory
 use Rattle.cga_update.specs.declared.work.Work.{Work}
 use Rattle.cga_queue.specs.Agenda.{AgendaView, IsLeast}
 use Rattle.cga_queue.specs.Remembered.{AreOn, IsRemembered, RememberedView}
-use Rattle.cga_same.specs.Both.{both}
-use Rattle.cga_update.specs.Due.{AllCame, ComersAreDue}
+use Rattle.cga_depend.specs.Both.{both}
+use Rattle.cga_update.specs.Due.{AskersAreDue, AsksStill, ComersAreDue, HasCome}
 use Rattle.cga_update.specs.Edit.{asks_by, content, kept_nodes, meets_box, ranked, rules_of, shapes_of, the_edit}
 use Rattle.cga_check.specs.Uses.{same_name}
 use Rattle.cga_rule.specs.declared.grammar.Grammar.{Grammar}
@@ -45,14 +45,14 @@ use Rattle.cga_update.specs.Log.{IsLogged, StayAlike, came_of, drawn_of, is_of, 
 use Rattle.cga_update.specs.Means.{ArePriced, Means, told_ranked}
 use Rattle.cga_update.specs.Queue.{chains_of, on_of}
 use Rattle.cga_update.specs.Turned.{IsPlacing}
-use Rattle.cga_update.proofs.Bounding.{NobodyLeft}
+use Rattle.cga_update.proofs.DueNodes.{may_be_on}
 use Rattle.cga_update.proofs.Children.{are_news, is_fit, is_outcome, keeps_self}
 use Rattle.cga_update.proofs.Facts.{said_asks}
 use Rattle.cga_update.proofs.Edits.{by_symbol, is_rules_edit}
 use Rattle.cga_update.proofs.Idle.{TheEdit, TheState}
 use Rattle.cga_update.proofs.Lasting.{turn_up_to}
-use Rattle.cga_update.proofs.Moved.{is_moved, stays_on, still_due}
-use Rattle.cga_update.proofs.Moves.{comers_stay, remembered_rest, some_one, taken_at}
+use Rattle.cga_update.proofs.Moved.{comer_on, is_moved, later_in, later_on, stays_on, still_due}
+use Rattle.cga_update.proofs.Moves.{remembered_rest, some_one, stay_due, taken_at}
 use Rattle.cga_update.proofs.Nodes.{kept_bound}
 use Rattle.cga_update.proofs.Drawing.{lists_lost}
 use Rattle.cga_update.proofs.Logged.{logged_more}
@@ -120,25 +120,26 @@ module _ (was now : Work) (rest : AgendaView) (id : ℕ) (x : Chain) (turned : T
 
   comers : (c : ℕ) (d : Seen) → V c ≡ Some d → marked_at now.forest c ≡ None → is_instance d.node.kind ≡ false
       → IsAfter d → on_of was.forest rest c ≡ true
-  comers c d here came solid less = comers_stay was.forest new was.agenda rest id x e least turn.here means.due c d
-      (record { here = here; came = sym (marks_stay c) ∙ came; solid = solid; less = less })
+  comers c d here came solid less = stay_due (HasCome was.forest) was.forest new was.agenda rest id x e least turn.here means.due c d
+      (record { here = here; one = sym (marks_stay c) ∙ came; solid = solid; less = less })
 
-  all_came : was.all_came ≡ true → AllCame now.forest
-  all_came is c d here = marks_stay c ∙ elim (option_cases (V c)) [
-    | inl none ↦ turn.placed.1.unmarked c none (ap is_some here)
-    | inr p ↦ means.all_came is c p.0 p.1
-  ]
+  was_marked : (c : ℕ) → IsSome (marked_at now.forest c) → IsSome (marked_at was.forest c)
+  was_marked c marked = subst IsSome (marks_stay c) marked
+
+  askers : was.all_queued ≡ true → (c : ℕ) (d : Seen) → V c ≡ Some d → AsksStill now.forest c d
+      → is_instance d.node.kind ≡ false → IsAfter d → on_of was.forest rest c ≡ true
+  askers is c d here asks solid less = stay_due (AsksStill was.forest) was.forest new was.agenda rest id x e least turn.here (means.all_queued is) c d
+      (record { here = here; one = (was_marked c asks.0, asks.1); solid = solid; less = less })
 
   up_to : AskersAreUpTo new.mode was.last g now.forest
   up_to = turn_up_to was.forest now.forest g id e after_e turn.here replaced.is gone replaced.rest inner refl
       (λ is. sym (said_asks g e.node.shape) ∙ is) refl marks_stay turn.placed.1.unmarked new.mode was.last means.last
 
-  left : turn.placed.1.nobody ≡ true → NobodyLeft now.forest IsAfter
+  left : turn.placed.1.nobody ≡ true → (c : ℕ) (d : Seen) → V c ≡ Some d → IsSome (marked_at now.forest c)
+      → is_instance d.node.kind ≡ false → d.node.asks ≡ true → IsAfter d → on_of was.forest rest c ≡ true
   left is c d here marked solid asks less = elim (turn.placed.1.nobody_left is) [
-    | inl all ↦
-        let z : false ≡ true = ap is_some (sym (all_came all c d here)) ∙ marked in
-        cc
-    | inr past ↦ past e turn.here (chain_kept d.node) (up_to c d here marked solid (inl asks)) less
+    | inl all ↦ askers all c d here (marked, asks) solid less
+    | inr past ↦ absurd (past e turn.here (chain_kept d.node) (means.last c d here (was_marked c marked) solid (inl asks)) less)
   ]
 
   -- what came is a child of the node, and so comes later
@@ -267,8 +268,25 @@ module _ (was now : Work) (rest : AgendaView) (id : ℕ) (x : Chain) (turned : T
 
   due_now : ComersAreDue new.mode now.forest now.agenda
   due_now =
-      still_due was.forest now.forest new id news e after_e gone replaced inner still refl rest now.agenda (least.mode ∙ means.agenda_mode) turn.placed.0 turn.placed.1.went turn.placed.1.came turn.placed.1.nobody followed comers left
+      still_due was.forest now.forest new id news e after_e gone replaced inner still refl rest now.agenda (least.mode ∙ means.agenda_mode) turn.placed.0 turn.placed.1.went turn.placed.1.came turn.placed.1.nobody followed comers left (HasCome now.forest)
+      (comer_on was.forest now.forest new id news e after_e gone replaced inner still refl rest now.agenda (least.mode ∙ means.agenda_mode) turn.placed.0 turn.placed.1.went turn.placed.1.came turn.placed.1.nobody followed comers left)
       born_later (λ c x there on. (taken.1.left c x there on).2)
+
+  asker_on : now.all_queued ≡ true → (c : ℕ) (d : Seen) → T c ≡ Some d → AsksStill now.forest c d
+      → is_instance d.node.kind ≡ false → IsAfter d → on_of now.forest now.agenda c ≡ true
+  asker_on is c d here asks solid less = elim (turn.placed.1.all_queued are_on is) [
+    | inl all ↦
+        later_on was.forest now.forest new id news e after_e gone replaced inner still refl rest now.agenda (least.mode ∙ means.agenda_mode) turn.placed.0 turn.placed.1.went turn.placed.1.came turn.placed.1.nobody followed comers left c d here solid less
+        (λ there. askers all c d there asks solid less)
+    | inr has ↦
+        let late = later_in was.forest now.forest new id news e after_e gone replaced inner still refl rest now.agenda (least.mode ∙ means.agenda_mode) turn.placed.0 turn.placed.1.went turn.placed.1.came turn.placed.1.nobody followed comers left c d here solid less in
+        has c (record { seen = d; there = here; marked = asks.0; asks = asks.1 }, late) (may_be_on now.forest c d here solid)
+  ]
+
+  askers_now : now.all_queued ≡ true → AskersAreDue new.mode now.forest now.agenda
+  askers_now is =
+      still_due was.forest now.forest new id news e after_e gone replaced inner still refl rest now.agenda (least.mode ∙ means.agenda_mode) turn.placed.0 turn.placed.1.went turn.placed.1.came turn.placed.1.nobody followed comers left (AsksStill now.forest)
+      (asker_on is) born_later (λ c x there on. (taken.1.left c x there on).2)
 
   means_now : Means now edit after
   means_now = record {
@@ -280,7 +298,7 @@ module _ (was now : Work) (rest : AgendaView) (id : ℕ) (x : Chain) (turned : T
     queued = to_new (λ b. AreQueued (shapes_of b.now) content T (on_of now.forest now.agenda) result.1.0) result.1.1;
     due = to_new (λ b. ComersAreDue b.now.mode now.forest now.agenda) due_now;
     remembered = turn.placed.1.remembered are_on;
-    all_came = λ is. all_came (sym turn.placed.1.bounds.all_came ∙ is);
+    all_queued = λ is. to_new (λ b. AskersAreDue b.now.mode now.forest now.agenda) (askers_now is);
     priced = λ is. to_new (λ b. ArePriced b.now.grammar now.forest) (still_priced was.forest now.forest before g id turn.outcome e after_e gone replaced refl turn.here refl refl inner (means.priced (sym turn.placed.1.bounds.priced ∙ is)));
     last = to_new (λ b. AskersAreUpTo b.now.mode now.last b.now.grammar now.forest) (subst (λ l. AskersAreUpTo new.mode l g now.forest) (sym turn.placed.1.bounds.last) up_to);
     silent = still_silent was.forest now.forest before g id turn.outcome e after_e gone replaced refl means.silent;

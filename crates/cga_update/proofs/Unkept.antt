@@ -1,6 +1,6 @@
 -- What came is on the agenda when the work begins; and where no node was kept, each came.
-use Rattle.std.proofs.Common.{◌≡◌, inl, inr, ℕ, List, sym, ◌∙◌, Option, Some, None, true}
-use Rattle.std.specs.Prelude.{nat_eq}
+use Rattle.std.proofs.Common.{◌≡◌, inl, inr, ℕ, List, ap, sym, ◌∙◌, Option, Some, None, true, false}
+use Rattle.std.specs.Prelude.{is_some, nat_eq}
 use borrow.Author.Tests.{eqb-true}
 use Rattle.cga_fraction.proofs.Door.{None-not-Some as none_some, cases_Option as option_cases}
 use Rattle.cga_word.specs.declared.mode.Mode.{Mode}
@@ -9,9 +9,9 @@ use Rattle.cga_depend.specs.Pairs.{DependentsView}
 use Rattle.cga_forest.specs.declared.moved.Moved.{Moved}
 use Rattle.cga_forest.specs.Count.{tally}
 use Rattle.cga_forest.specs.View.{Seen, is_shown}
-use Rattle.cga_forest.specs.Tree.{ForestView, node_at}
+use Rattle.cga_forest.specs.Tree.{ForestView, marked_at, node_at}
 use Rattle.cga_queue.specs.Agenda.{AgendaView}
-use Rattle.cga_update.specs.Due.{ComersAreDue}
+use Rattle.cga_update.specs.Due.{AskersAreDue, ComersAreDue}
 use Rattle.cga_update.proofs.Beginning.{came_on}
 use Rattle.cga_update.proofs.Counting.{none_shown}
 use Rattle.cga_update.proofs.Rooting.{IsRooted}
@@ -27,6 +27,13 @@ all_came V before after still none c d here = elim (option_cases (V c)) [
   | inl e ↦ e
   | inr p ↦ none_some d (sym (none_shown before.slots none c) ∙ (sym (still c p.0 p.1) ∙ here))
 ]
+
+-- then nobody of the mark asks
+pub none_asks : (v : ForestView) (mode : Mode) (a : AgendaView)
+    → ((c : ℕ) (d : Seen) → node_at v c ≡ Some d → marked_at v c ≡ None) → AskersAreDue mode v a
+none_asks v mode a came b c e d at on here asks solid less =
+    let z : false ≡ true = ap is_some (sym (came c d here)) ∙ asks.0 in
+    absurd (cc)
 
 -- what came is on the agenda
 pub first_due : {old new : Sources} {first v : ForestView} {d : DependentsView} {went came : List Moved}

@@ -29,3 +29,10 @@ pub record IsAsker (v : ForestView) (moved : List Moved) (c : ℕ) : Type 0 wher
 pub record ListsAskers (v : ForestView) (moved : List Moved) (list : List ℕ) : Type 0 where
   pub all : (c : ℕ) → IsAsker v moved c → Among c list
   pub only : (c : ℕ) → Among c list → IsAsker v moved c
+
+-- the node was there at the mark and asks
+pub record IsLasting (v : ForestView) (c : ℕ) : Type 0 where
+  pub seen : Seen
+  pub there : node_at v c ≡ Some seen
+  pub marked : IsSome (marked_at v c)
+  pub asks : seen.node.asks ≡ true

@@ -1,7 +1,7 @@
 -- What an update begins with, and where it stands then.
 use Rattle.std.specs.Prelude.{◌≡◌, ℕ, List, [], length, Some, true, false}
 use Rattle.cga_order.specs.World.{is_instance}
-use Rattle.cga_agenda.specs.Loop.{IsReady, State}
+use Rattle.cga_agenda.specs.Loop.{IsReady, LoopState}
 use Rattle.cga_word.specs.declared.answers.Answers.{Answers}
 use Rattle.cga_word.specs.declared.primitive.Primitive.{Primitive}
 use Rattle.cga_depend.specs.Pairs.{DependentsView, nodes_in}
@@ -17,7 +17,7 @@ use Rattle.cga_update.specs.declared.work.Work.{Work}
 use Rattle.cga_queue.specs.Agenda.{AgendaView, HasAll}
 use Rattle.cga_update.specs.Applied.{ListsView}
 use Rattle.cga_update.specs.Askers.{IsAsker, IsOneOf}
-use Rattle.cga_same.specs.Both.{both}
+use Rattle.cga_depend.specs.Both.{both}
 use Rattle.cga_update.specs.Edit.{asks_by, content, kept_nodes, rules_of, shapes_of, the_edit}
 use Rattle.cga_update.specs.Means.{Means}
 use Rattle.cga_update.specs.Plain.{IsPlain}
@@ -65,5 +65,5 @@ pub record IsFirst (old new : Sources) (v : ForestView) (d : DependentsView) (we
 -- the work is ready for its first turn, from the nodes of the mark
 abbrev pub HasBegun : Sources → Sources → ForestView → Work → Type 0
 HasBegun old new v w =
-    (s : State (Ranked Shape) Answers ShapeFault Primitive) × Means w (the_edit old new) s
+    (s : LoopState (Ranked Shape) Answers ShapeFault Primitive) × Means w (the_edit old new) s
     × IsReady (the_edit old new) (kept_nodes v) s (length (the_edit old new).new.roots)

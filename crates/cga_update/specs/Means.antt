@@ -7,7 +7,7 @@ use Rattle.cga_shape.specs.declared.shape.Shape.{Shape}
 use Rattle.cga_shape.specs.declared.shape_fault.ShapeFault.{ShapeFault}
 use Rattle.cga_order.specs.World.{is_instance}
 use Rattle.cga_agenda.specs.Edit.{Edit}
-use Rattle.cga_agenda.specs.Loop.{State}
+use Rattle.cga_agenda.specs.Loop.{LoopState}
 use Rattle.cga_agenda.specs.Record.{Drawn}
 use Rattle.cga_rework.specs.Agenda.{AreQueued}
 use Rattle.cga_rework.specs.City.{IsUnderway}
@@ -19,8 +19,8 @@ use Rattle.cga_forest.specs.View.{Seen}
 use Rattle.cga_forest.specs.Tree.{ForestView, KeepsMark, marked_at, node_at}
 use Rattle.cga_update.specs.declared.work.Work.{Work}
 use Rattle.cga_queue.specs.Remembered.{AreOn}
-use Rattle.cga_same.specs.Both.{both}
-use Rattle.cga_update.specs.Due.{AllCame, ComersAreDue}
+use Rattle.cga_depend.specs.Both.{both}
+use Rattle.cga_update.specs.Due.{AskersAreDue, ComersAreDue}
 use Rattle.cga_update.specs.Edit.{asks_by, content, kept_nodes, rules_of, shapes_of, the_edit}
 use Rattle.cga_update.specs.Last.{AskersAreUpTo}
 use Rattle.cga_update.specs.Log.{IsLogged}
@@ -38,7 +38,7 @@ ArePriced g v =
     (c : ℕ) (d : Seen) → node_at v c ≡ Some d → is_instance d.node.kind ≡ false
     → d.node.priority ≡ priority_of g d.node.shape.symbol
 
-pub record Means (w : Work) (edit : Edit (Ranked Shape) Answers Setting ShapeFault Primitive) (s : State (Ranked Shape) Answers ShapeFault Primitive) : Type 0 where
+pub record Means (w : Work) (edit : Edit (Ranked Shape) Answers Setting ShapeFault Primitive) (s : LoopState (Ranked Shape) Answers ShapeFault Primitive) : Type 0 where
   pub edit_is : edit ≡ the_edit w.renewal.old.now w.renewal.new.now
   pub mode : w.forest.mode ≡ w.renewal.new.now.mode
   pub agenda_mode : w.agenda.mode ≡ w.renewal.new.now.mode
@@ -49,7 +49,7 @@ pub record Means (w : Work) (edit : Edit (Ranked Shape) Answers Setting ShapeFau
   pub queued : AreQueued (shapes_of w.renewal.new.now) content (node_at w.forest) (on_of w.forest w.agenda) s.queued
   pub due : ComersAreDue w.renewal.new.now.mode w.forest w.agenda
   pub remembered : AreOn (chains_of w.forest) w.remembered w.agenda
-  pub all_came : w.all_came ≡ true → AllCame w.forest
+  pub all_queued : w.all_queued ≡ true → AskersAreDue w.renewal.new.now.mode w.forest w.agenda
   pub priced : w.priced ≡ true → ArePriced w.renewal.new.now.grammar w.forest
   pub last : AskersAreUpTo w.renewal.new.now.mode w.last w.renewal.new.now.grammar w.forest
   -- an instance doesn't ask
@@ -64,8 +64,8 @@ pub record Means (w : Work) (edit : Edit (Ranked Shape) Answers Setting ShapeFau
   pub marked : w.forest.marking ≡ true
   pub logged : IsLogged (marked_at w.forest) (node_at w.forest) w.log.items
 
--- the sources and their grammars, the mode and the mark are as they were, and so is whether all nodes came and are priced,
--- and the last that asks
+-- the sources and their grammars, the mode and the mark are as they were, and so is whether all nodes are priced, and the
+-- last that asks
 pub record KeepsBounds (was now : Work) : Type 0 where
   pub old : now.renewal.old ≡ was.renewal.old
   pub new : now.renewal.new ≡ was.renewal.new
@@ -74,6 +74,5 @@ pub record KeepsBounds (was now : Work) : Type 0 where
   pub symbols : now.symbols ≡ was.symbols
   pub rules : now.rules ≡ was.rules
   pub grammars : now.grammars ≡ was.grammars
-  pub all_came : now.all_came ≡ was.all_came
   pub priced : now.priced ≡ was.priced
   pub last : now.last ≡ was.last

@@ -5,7 +5,7 @@ use Rattle.cga_update.specs.declared.work.Work.{Work}
 use Rattle.cga_update.specs.Means.{KeepsBounds}
 
 pub keeps_itself : (w : Work) → KeepsBounds w w
-keeps_itself w = record { old = refl; new = refl; mode = refl; mark = (refl, λ m c. refl); symbols = refl; rules = refl; grammars = refl; all_came = refl; priced = refl; last = refl }
+keeps_itself w = record { old = refl; new = refl; mode = refl; mark = (refl, λ m c. refl); symbols = refl; rules = refl; grammars = refl; priced = refl; last = refl }
 
 pub keeps_on : (u v w : Work) → KeepsBounds u v → KeepsBounds v w → KeepsBounds u w
 keeps_on u v w a b = record {
@@ -16,7 +16,6 @@ keeps_on u v w a b = record {
   symbols = b.symbols ∙ a.symbols;
   rules = b.rules ∙ a.rules;
   grammars = b.grammars ∙ a.grammars;
-  all_came = b.all_came ∙ a.all_came;
   priced = b.priced ∙ a.priced;
   last = b.last ∙ a.last;
 }

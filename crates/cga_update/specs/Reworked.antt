@@ -6,7 +6,7 @@ use Rattle.cga_shape.specs.declared.shape.Shape.{Shape}
 use Rattle.cga_shape.specs.declared.shape_fault.ShapeFault.{ShapeFault}
 use Rattle.cga_shape.specs.declared.sources.Sources.{Sources}
 use Rattle.cga_agenda.specs.declared.ended.Ended.{Ended}
-use Rattle.cga_agenda.specs.Loop.{IsEnded, State}
+use Rattle.cga_agenda.specs.Loop.{IsEnded, LoopState}
 use Rattle.cga_rework.specs.Ranked.{Ranked}
 use Rattle.cga_forest.specs.Tree.{ForestView}
 use Rattle.cga_update.specs.declared.work.Work.{Work}
@@ -16,5 +16,5 @@ use Rattle.cga_update.specs.Means.{Means}
 -- the work from the nodes of a forest ended so, with so many calls before and after it
 abbrev pub HasEnded : Sources → Sources → ForestView → Work → ℕ → ℕ → ℕ → Ended → Type 0
 HasEnded old new v w budget calls since ended =
-    (s : State (Ranked Shape) Answers ShapeFault Primitive) × Means w (the_edit old new) s
+    (s : LoopState (Ranked Shape) Answers ShapeFault Primitive) × Means w (the_edit old new) s
     × IsEnded (the_edit old new) (kept_nodes v) s budget calls since ended

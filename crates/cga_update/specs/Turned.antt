@@ -22,9 +22,9 @@ use Rattle.cga_forest.specs.Placing.{Outcome, children_after, emitted, kind_afte
 use Rattle.cga_forest.specs.View.{Seen}
 use Rattle.cga_forest.specs.Tree.{ForestView, IsForest, Replaces, marked_at, node_at}
 use Rattle.cga_update.specs.declared.work.Work.{Work}
-use Rattle.cga_same.specs.Both.{both}
+use Rattle.cga_depend.specs.Both.{both}
 use Rattle.cga_update.specs.Edit.{asks_by, kept_nodes, ranked, the_edit}
-use Rattle.cga_update.specs.Follow.{IsFollowed}
+use Rattle.cga_update.specs.Follow.{HasLaters, IsFollowed}
 use Rattle.cga_queue.specs.Last.{IsPast}
 use Rattle.cga_queue.specs.Remembered.{AreOn, IsRemembered, RememberedView}
 use Rattle.cga_update.specs.Askers.{IsOneOf}
@@ -33,10 +33,10 @@ use Rattle.cga_update.specs.Log.{came_of, drawn_of, went_of}
 use Rattle.cga_update.specs.Means.{KeepsBounds}
 use Rattle.cga_update.specs.Plain.{IsPlain}
 
--- each node came since the mark, or none of the mark that asks comes later than the node
+-- each of the mark that asks and comes later than the node is on the agenda, or there is none
 abbrev pub HasNobodyLeft : Work → ℕ → Type 0
 HasNobodyLeft w id =
-    (w.all_came ≡ true)
+    (w.all_queued ≡ true)
     ⊎ ((e : Seen) → node_at w.forest id ≡ Some e → IsPast w.renewal.new.now.mode w.last (chain_kept e.node))
 
 -- the node has the outcome and these answers now, and what went and came is noted and followed
@@ -55,6 +55,8 @@ pub record IsPlaced (was now : Work) (id : ℕ) (answers : Answers) (outcome : O
   pub followed : AreOn (chains_of now.forest) less was.agenda
       → IsFollowed now.forest id change nobody was.agenda now.agenda
   pub remembered : AreOn (chains_of now.forest) less was.agenda → AreOn (chains_of now.forest) now.remembered now.agenda
+  pub all_queued : AreOn (chains_of now.forest) less was.agenda → now.all_queued ≡ true
+      → (was.all_queued ≡ true) ⊎ HasLaters now.forest id was.agenda.mode now.agenda
   pub log : now.log.items ≡ (was.log.items ++ went_of change.went) ++ came_of change.came
   pub gone : now.gone.items ≡ was.gone.items ++ drawn_of change.went
   pub come : now.come.items ≡ was.come.items ++ drawn_of change.came

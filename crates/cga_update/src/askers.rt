@@ -1,11 +1,13 @@
 //! Who asks near what moved, of the nodes that were there at the mark.
-ghost use Rattle.std.specs.Prelude.{◌≡◌, ◌++◌, IfOk, OnOk};
-ghost use Rattle.cga_update.specs.Askers.{ListsAskers, boxes_of};
+ghost use Rattle.std.specs.Prelude.{◌≡◌, ◌++◌, ℕ, IfOk, OnOk};
+ghost use Rattle.cga_order.specs.World.{Among};
+ghost use Rattle.cga_forest.specs.Walked.{lasting_tree};
+ghost use Rattle.cga_update.specs.Askers.{IsLasting, ListsAskers, boxes_of};
 
 use cga_forest::{Forest, Moved};
 use cga_fraction::{List, NoMemory, Tests};
 use cga_frame::WorldBox;
-use cga_index::{LastingAskers, NodeId, queriers_near};
+use cga_index::{Lasting, LastingAskers, NodeId, all_nodes, queriers_near};
 use std::alloc::Global;
 use std::sync::ledger::Ledger;
 
@@ -17,6 +19,7 @@ pub fn askers_near<T: Ledger>(
     went: &[Moved],
     came: &[Moved],
     tests: &mut Tests<T>,
+    looked: &mut usize,
 ) -> Result<List<NodeId>, NoMemory>
     ensures { IfOk result (ListsAskers forest.now (went.now ++ came.now)) }
 {
@@ -29,6 +32,7 @@ pub fn askers_near<T: Ledger>(
         &LastingAskers { tree: forest },
         areas.as_slice(),
         tests,
+        looked,
     )
 }
 
@@ -40,4 +44,24 @@ fn add_boxes(moved: &[Moved], boxes: &mut Vec<WorldBox>) -> Result<(), NoMemory>
         boxes.push(node.bounds())?;
     }
     Ok(())
+}
+
+/// Whether a node was there at the mark and asks.
+fn is_lasting(forest: &Forest, id: NodeId) -> bool
+    ensures { result ≡ (lasting_tree forest.now).asks id }
+{
+    match forest.node(id) {
+        Some(node) => node.asks && forest.lasts(id),
+        None => false,
+    }
+}
+
+/// All nodes of the mark that ask. Takes memory for every node.
+pub fn lasting_askers(alloc: Global, forest: &Forest) -> Result<Vec<NodeId>, NoMemory>
+    ensures { IfOk result (λ list. (c : ℕ) → IsLasting forest.now c → Among c list.items) }
+{
+    forest.laws(); // for the proof
+    let mut nodes = all_nodes(alloc, forest)?;
+    nodes.retain(|id| is_lasting(forest, *id));
+    Ok(nodes)
 }

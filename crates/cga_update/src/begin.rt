@@ -12,12 +12,11 @@ use crate::renewal::Renewal;
 use crate::roots::{add_roots, remove_roots};
 use crate::work::Work;
 use cga_check::Symbols;
-use cga_depend::Dependents;
+use cga_depend::{Dependents, Grammars};
 use cga_expand::RulesByPlace;
 use cga_forest::{Forest, Moved};
 use cga_fraction::{NoMemory, Tests};
 use cga_queue::{Agenda, Last, Remembered};
-use cga_same::Grammars;
 use std::alloc::Global;
 use std::sync::ledger::Ledger;
 
@@ -63,7 +62,7 @@ fn begin<T: Ledger>(
         renewal,
         &mut went,
     )?;
-    work.all_came = work.forest.count() == 0;
+    work.all_queued = work.forest.count() == 0;
     let mut came = Vec::new(alloc);
     add_roots(&mut work.forest, &mut work.symbols, renewal, &mut came)?;
     let went_nodes = went.as_slice();
@@ -117,7 +116,8 @@ pub fn begun<'a, T: Ledger>(
         forest,
         agenda: Agenda::new(alloc, renewal.new.mode),
         remembered: Remembered::new(alloc),
-        all_came: false,
+        all_queued: false,
+        looked: 0,
         priced: false,
         last: Last::Unknown,
         symbols: Symbols::new(alloc, &renewal.new.grammar),

@@ -9,12 +9,11 @@ ghost use Rattle.cga_update.specs.Queue.{chains_of};
 
 use crate::askers::askers_near;
 use crate::worked::Worked;
-use cga_depend::Dependents;
+use cga_depend::{Dependents, Grammars};
 use cga_forest::{Forest, Moved};
 use cga_fraction::{List, NoMemory, Tests};
 use cga_index::NodeId;
 use cga_queue::{Agenda, add, add_all};
-use cga_same::Grammars;
 use cga_word::Name;
 use std::sync::ledger::Ledger;
 
@@ -42,7 +41,7 @@ pub fn queue_near<T: Ledger>(
     ensures grows { OnOk result (Grows (chains_of forest.now) (IsAsker forest.now (went.now ++ came.now)) agenda.old agenda.new) }
     ensures there { OnOk result (HasAll (chains_of forest.now) (IsAsker forest.now (went.now ++ came.now)) agenda.new) }
 {
-    let askers = askers_near(agenda.alloc(), forest, went, came, tests)?;
+    let askers = askers_near(agenda.alloc(), forest, went, came, tests, &mut 0)?;
     add_all(agenda, &Worked { forest }, askers.as_slice())
 }
 

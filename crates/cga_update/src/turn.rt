@@ -9,25 +9,25 @@ ghost use Rattle.cga_forest.specs.Placing.{MayGrow, Outcome, emitted};
 ghost use Rattle.cga_forest.specs.View.{Seen};
 ghost use Rattle.cga_forest.specs.Tree.{node_at};
 ghost use Rattle.cga_check.specs.Said.{asks_any, said};
-ghost use Rattle.cga_same.specs.Changed.{AreFacts};
+ghost use Rattle.cga_depend.specs.Changed.{AreFacts};
 ghost use Rattle.cga_update.specs.Means.{KeepsBounds, Means};
 ghost use Rattle.cga_update.specs.Plain.{IsPlain};
 ghost use Rattle.cga_update.specs.Turned.{HasNobodyLeft, HasPlaced, IsAgain, IsTurned, MayTurn};
 
 use crate::again::outcome_again;
 use crate::asked::asked;
-use crate::follow::{follow, forget_all};
+use crate::follow::{follow, forget_all, queue_rest};
 use crate::log::{note_came, note_went};
 use crate::work::Work;
 use crate::worked::Worked;
 use cga_agenda::Turned;
 use cga_check::Said;
+use cga_depend::Facts;
 use cga_expand::{Expansions, expand_by_place};
 use cga_forest::{Forest, Node};
 use cga_fraction::{List, NoMemory, Tests};
 use cga_index::NodeId;
 use cga_queue::take;
-use cga_same::Facts;
 use cga_shape::{Answers, Emitted, Kind, ShapeFault};
 use cga_word::Name;
 use std::sync::ledger::Ledger;
@@ -38,12 +38,12 @@ const NOT_EXPANDED: Turned = Turned {
     expanded: false,
 };
 
-/// Whether each node came since the mark, or none of the mark asks later than this one.
+/// Whether each of the mark that asks later than this one is on the agenda, or none does.
 fn has_nobody_left(work: &Work, id: NodeId) -> bool
     requires here { IsSome (node_at work.now.forest id) }
     ensures { result ≡ true → HasNobodyLeft work.now id }
 {
-    if work.all_came {
+    if work.all_queued {
         return true;
     }
     let mode = work.renewal.new.mode;
@@ -77,6 +77,15 @@ fn place<T: Ledger>(
         &change,
         nobody,
         tests,
+        &mut work.looked,
+    )?;
+    queue_rest(
+        &mut work.agenda,
+        &mut work.remembered,
+        &work.forest,
+        id,
+        work.looked,
+        &mut work.all_queued,
     )
 }
 

@@ -1,10 +1,9 @@
 use crate::renewal::Renewal;
 use cga_check::Symbols;
-use cga_depend::Pairing;
+use cga_depend::{Grammars, Pairing};
 use cga_expand::RulesByPlace;
 use cga_forest::Forest;
 use cga_queue::{Agenda, Last, Remembered};
-use cga_same::Grammars;
 use cga_shape::Drawn;
 use std::alloc::Global;
 
@@ -17,8 +16,10 @@ pub struct Work<'a> {
     pub(crate) agenda: Agenda,
     /// Some of the nodes that are on the agenda.
     pub(crate) remembered: Remembered,
-    /// Whether each node came since the mark: then nobody has to be looked for.
-    pub(crate) all_came: bool,
+    /// Whether each node of the mark that asks and is left is on the agenda: then nobody has to be looked for.
+    pub(crate) all_queued: bool,
+    /// How many nodes the walks for those who ask have looked at.
+    pub(crate) looked: usize,
     /// Whether each node has the priority that its symbol has today: then one that is asked as before is done.
     pub(crate) priced: bool,
     /// When the last node of the mark is looked at that asks: then nobody has to be looked for behind it.

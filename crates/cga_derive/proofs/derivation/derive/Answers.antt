@@ -3,7 +3,7 @@ use Rattle.std.proofs.lemmas.List.{length-map}
 use Rattle.cga_derivation.specs.Derivation.{reached}
 use Rattle.cga_expand.specs.Children.{Member}
 use Rattle.cga_expand.specs.Derivation.{roots_of}
-use Rattle.cga_key.specs.declared.stamp_key.StampKey.{StampKey}
+use Rattle.cga_order.specs.declared.stamp_key.StampKey.{StampKey}
 use Rattle.cga_shape.specs.declared.sources.Sources.{Sources}
 use Rattle.cga_derive.specs.Derives.{expanded_count}
 use Rattle.cga_derive.specs.Run.{IsAfter}

@@ -1,6 +1,6 @@
 use Rattle.std.proofs.Common.{◌≡◌, ◌≤◌, length, swap, refl, sym, ap, arith, ◌∙◌, subst, List, ◌++◌, ◌∷◌, []}
 use Rattle.std.specs.Prelude.{Option, if◌then◌else◌}
-use Rattle.cga_forest.specs.declared.entry.Entry.{Entry}
+use Rattle.cga_forest.specs.declared.slot_entry.SlotEntry.{SlotEntry}
 use Rattle.std.proofs.lemmas.List.{length_push}
 use Rattle.std.proofs.lemmas.List.Sorted.{IsPermutation-swap}
 use Rattle.cga_marked.specs.Map.{AreApart, Named}
@@ -36,13 +36,13 @@ invariant_of-self-2 c =
           (IsPermutation-swap _ _ c.push-place.result (length c.self.inside.roots.list) (omega (arith, low, long)) (omega (arith, long)) is)
           (subst AreApart (sym c.settle_unless.ensures.list) c.push-place.ensures.apart)
           (c.settle_unless.ensures.former ∙ (λ i. if c.self.inside.marking then (c.push-place.ensures.former ∙ c.in_ok-reserve-2.ensures.former) i else sym c.settle_unless.ensures.list i))
-          (subst (λ (xs : List (Option Entry)). IsForest (record { slots = xs; marking = c.self.inside.marking; roots = c.self.inside.roots.list; marked_roots = c.self.inside.roots.former; mode = c.self.inside.mode })) (sym c.in_ok-reserve.ensures.slots) c.self.invariant.forest);
+          (subst (λ (xs : List (Option SlotEntry)). IsForest (record { slots = xs; marking = c.self.inside.marking; roots = c.self.inside.roots.list; marked_roots = c.self.inside.roots.former; mode = c.self.inside.mode })) (sym c.in_ok-reserve.ensures.slots) c.self.invariant.forest);
       covered =
           covered_added (node_at (record { slots = c.self.inside.store.slots; marking = c.self.inside.marking; roots = c.self.inside.roots.list; marked_roots = c.self.inside.roots.former; mode = c.self.inside.mode })) c.self.inside.roots.list _ (hulls_at (record { slots = c.self.inside.store.slots; marking = c.self.inside.marking; roots = c.self.inside.roots.list; marked_roots = c.self.inside.roots.former; mode = c.self.inside.mode })) _ c.self.inside.blocks c.make_room.new.self c.cover_place.new.blocks c.cover_place-2.new.blocks c.args.node.shape.lot c.add_node-id.result c.push-place.result
           (record {
             known = c.self.invariant.forest.tops;
-            fresh = ap (λ (xs : List (Option Entry)). present_of (slot xs c.add_node-id.result)) (sym c.in_ok-reserve.ensures.slots) ∙ ap present_of c.add_node-id.ensures.vacant;
-            others = λ k n. ap hulls_of (c.add_node-id.ensures.others k n) ∙ ap (λ (xs : List (Option Entry)). hulls_of (slot xs k)) c.in_ok-reserve.ensures.slots;
+            fresh = ap (λ (xs : List (Option SlotEntry)). present_of (slot xs c.add_node-id.result)) (sym c.in_ok-reserve.ensures.slots) ∙ ap present_of c.add_node-id.ensures.vacant;
+            others = λ k n. ap hulls_of (c.add_node-id.ensures.others k n) ∙ ap (λ (xs : List (Option SlotEntry)). hulls_of (slot xs k)) c.in_ok-reserve.ensures.slots;
             made = λ i h lt e. c.make_room.ensures i h (let n = c.len-last.ensures in omega (arith, lt, n)) e;
             kept = c.cover_place.ensures.kept;
             more = c.cover_place-2.ensures.kept;
@@ -56,5 +56,5 @@ invariant_of-self-2 c =
 pub returns-clause-numbers : goal.returns-clause-numbers
 returns-clause-numbers c on k =
     rw (← c.self.view_is)
-    (subst (λ (xs : List (Option Entry)). StaysTaken (slot xs k) (slot c.add_node-id.new.store.slots k)) c.in_ok-reserve.ensures.slots
+    (subst (λ (xs : List (Option SlotEntry)). StaysTaken (slot xs k) (slot c.add_node-id.new.store.slots k)) c.in_ok-reserve.ensures.slots
     (taken_added (λ n. slot c.reserve.new.self.slots n) (λ n. slot c.add_node-id.new.store.slots n) c.add_node-id.result c.add_node-id.ensures.vacant c.add_node-id.ensures.others k))

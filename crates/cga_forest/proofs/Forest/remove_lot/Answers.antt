@@ -1,6 +1,6 @@
 use Rattle.std.proofs.Common.{◌≡◌, ◌∙◌, true, refl, sym, ap, subst}
 use Rattle.std.specs.Prelude.{Option, if◌then◌else◌}
-use Rattle.cga_forest.specs.declared.entry.Entry.{Entry}
+use Rattle.cga_forest.specs.declared.slot_entry.SlotEntry.{SlotEntry}
 use Rattle.cga_forest.specs.Numbers.{StaysTaken}
 use Rattle.cga_marked.specs.Map.{KeepsPlaces}
 use Rattle.cga_forest.specs.View.{hulls_of, present_of, slot}
@@ -60,7 +60,7 @@ returns-in-None-clause-absent c = λ _. no_lot (record { slots = c.self.inside.s
 
 pub returns-else-not-self-clause-numbers : goal.returns-else-not-self-clause-numbers
 returns-else-not-self-clause-numbers c on k =
-    rw (← c.self.view_is) (subst (λ (s : Option Entry). StaysTaken (slot c.self.inside.store.slots k) s) (sym (c.set_aside.ensures.pointwise k)) (taken_cut _ (slot c.self.inside.store.slots k)))
+    rw (← c.self.view_is) (subst (λ (s : Option SlotEntry). StaysTaken (slot c.self.inside.store.slots k) s) (sym (c.set_aside.ensures.pointwise k)) (taken_cut _ (slot c.self.inside.store.slots k)))
 
 pub returns-then-not-self-clause-numbers : goal.returns-then-not-self-clause-numbers
 returns-then-not-self-clause-numbers c on k =

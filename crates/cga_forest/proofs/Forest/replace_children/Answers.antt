@@ -1,6 +1,6 @@
 use Rattle.std.proofs.Common.{◌≡◌, ◌∙◌, ℕ, List, Some, sym, ap, subst}
 use Rattle.cga_forest.specs.declared.node.Node.{Node}
-use Rattle.cga_forest.specs.declared.node.State.{State}
+use Rattle.cga_forest.specs.declared.node.NodeState.{NodeState}
 use Rattle.cga_check.specs.Said.{asks_any, said}
 use Rattle.cga_forest.specs.View.{Seen, at, present_of}
 use Rattle.cga_forest.specs.Tree.{ForestView, IsInner, Replaces, node_at}
@@ -22,7 +22,7 @@ replace_with-requires c =
     let news : c.in_ok-news.news.items ≡ children_after g e.node o = c.in_ok-news.ensures.made ∙ ap (λ h. children_after h c.entry.result.now.node o) c.of.ensures.grammar ∙ ap (λ (m : Node). children_after g m o) (sym n) in
     let deep = path_deep (λ k. present_of (at c.self.inside.store k)) c.self.invariant.forest.present.tree c.self.invariant.forest.present.places c.slot_of-id.result e seen in
     record {
-      here = (e, there, subst (λ (s : State). IsInner e s c.in_ok-news.news.items) (sym state) (subst (λ (l : List Node). IsInner e (state_after g e.node c.args.answers o) l) (sym news) (may_grow g e c.args.answers o deep c.requires.here.2)));
+      here = (e, there, subst (λ (s : NodeState). IsInner e s c.in_ok-news.news.items) (sym state) (subst (λ (l : List Node). IsInner e (state_after g e.node c.args.answers o) l) (sym news) (may_grow g e c.args.answers o deep c.requires.here.2)));
     }
 
 pub returns-clause-replaced : goal.returns-clause-replaced
@@ -43,4 +43,4 @@ returns-clause-replaced c = OnOk-map c.replace_with.result _ _ (λ done x t.
     subst (λ (y : Seen). Replaces old new c.args.node (state_after g y.node c.args.answers o) (children_after g y.node o)) same
     (subst (λ (k : ℕ). Replaces old new k (state_after g e.node c.args.answers o) (children_after g e.node o)) c.slot_of-id.ensures
     (subst (λ (l : List Node). Replaces old new c.slot_of-id.result (state_after g e.node c.args.answers o) l) news
-    (subst (λ (s : State). Replaces old new c.slot_of-id.result s c.in_ok-news.news.items) state done)))) c.replace_with.ensures.replaced
+    (subst (λ (s : NodeState). Replaces old new c.slot_of-id.result s c.in_ok-news.news.items) state done)))) c.replace_with.ensures.replaced

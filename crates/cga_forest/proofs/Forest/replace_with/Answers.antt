@@ -2,7 +2,7 @@ use Rattle.std.proofs.Common.{refl, true, Some, ◌≡◌, ◌++◌, ◌-◌, �
 use Rattle.std.specs.Prelude.{Option, is_some}
 use Rattle.cga_forest.proofs.Present.{depth_present}
 use Rattle.cga_forest.proofs.Right.{is_there}
-use Rattle.cga_forest.specs.declared.entry.Entry.{Entry}
+use Rattle.cga_forest.specs.declared.slot_entry.SlotEntry.{SlotEntry}
 use Rattle.cga_forest.specs.Gathered.{coming, found, going}
 use Rattle.cga_forest.specs.View.{at, kids, slot, present_of, marked_of, hulls_of, marked_hulls_of}
 use Rattle.cga_forest.specs.Tree.{ForestView, IsWhole, depth_at, stay_of, slot_at, node_at, hulls_at, marked_at}
@@ -23,31 +23,31 @@ pub overflow_add-depth : goal.overflow_add-depth
 overflow_add-depth c =
     let there : node_at (record { slots = c.self.inside.store.slots; marking = c.self.inside.marking; roots = c.self.inside.roots.list; marked_roots = c.self.inside.roots.former; mode = c.self.inside.mode }) c.args.id ≡ Some c.requires.here.0 = ap (λ (v : ForestView). node_at v c.args.id) c.self.view_is ∙ c.requires.here.1 in
     let shallow = c.self.invariant.forest.present.tree.shallow c.args.id c.requires.here.0 there in
-    let is : c.depth_of-depth.result ≡ c.requires.here.0.depth = c.depth_of-depth.ensures ∙ ap (λ (xs : List (Option Entry)). depth_at (slot xs c.args.id)) c.in_ok-reserve.ensures.slots ∙ depth_present (slot c.self.inside.store.slots c.args.id) c.requires.here.0 there in
+    let is : c.depth_of-depth.result ≡ c.requires.here.0.depth = c.depth_of-depth.ensures ∙ ap (λ (xs : List (Option SlotEntry)). depth_at (slot xs c.args.id)) c.in_ok-reserve.ensures.slots ∙ depth_present (slot c.self.inside.store.slots c.args.id) c.requires.here.0 there in
     omega arith
 
 pub overflow_sub-left : goal.overflow_sub-left
 overflow_sub-left c =
     let there : node_at (record { slots = c.self.inside.store.slots; marking = c.self.inside.marking; roots = c.self.inside.roots.list; marked_roots = c.self.inside.roots.former; mode = c.self.inside.mode }) c.args.id ≡ Some c.requires.here.0 = ap (λ (v : ForestView). node_at v c.args.id) c.self.view_is ∙ c.requires.here.1 in
     let shallow = c.self.invariant.forest.present.tree.shallow c.args.id c.requires.here.0 there in
-    let is : c.depth_of-depth.result ≡ c.requires.here.0.depth = c.depth_of-depth.ensures ∙ ap (λ (xs : List (Option Entry)). depth_at (slot xs c.args.id)) c.in_ok-reserve.ensures.slots ∙ depth_present (slot c.self.inside.store.slots c.args.id) c.requires.here.0 there in
+    let is : c.depth_of-depth.result ≡ c.requires.here.0.depth = c.depth_of-depth.ensures ∙ ap (λ (xs : List (Option SlotEntry)). depth_at (slot xs c.args.id)) c.in_ok-reserve.ensures.slots ∙ depth_present (slot c.self.inside.store.slots c.args.id) c.requires.here.0 there in
     omega arith
 
 pub replace-changed-requires-clause-here : goal.replace-changed-requires-clause-here
 replace-changed-requires-clause-here c =
-    let there = ap (λ (s : List (Option Entry)). present_of (slot s c.args.id)) c.in_ok-reserve.ensures.slots ∙ (ap (λ (v : ForestView). node_at v c.args.id) c.self.view_is ∙ c.requires.here.1) in
+    let there = ap (λ (s : List (Option SlotEntry)). present_of (slot s c.args.id)) c.in_ok-reserve.ensures.slots ∙ (ap (λ (v : ForestView). node_at v c.args.id) c.self.view_is ∙ c.requires.here.1) in
     (c.requires.here.0, there, c.requires.here.2)
 
 pub replace-changed-requires-clause-spares : goal.replace-changed-requires-clause-spares
 replace-changed-requires-clause-spares c = let is = c.depth_of-depth.ensures in let many = c.in_ok-provide.ensures in omega arith
 
 pub replace-changed-requires-clause-whole : goal.replace-changed-requires-clause-whole
-replace-changed-requires-clause-whole c = IsWhole-same (node_at (record { slots = c.self.inside.store.slots; marking = c.self.inside.marking; roots = c.self.inside.roots.list; marked_roots = c.self.inside.roots.former; mode = c.self.inside.mode })) _ (hulls_at (record { slots = c.self.inside.store.slots; marking = c.self.inside.marking; roots = c.self.inside.roots.list; marked_roots = c.self.inside.roots.former; mode = c.self.inside.mode })) _ (λ k. ap (λ (s : List (Option Entry)). present_of (slot s k)) c.in_ok-reserve.ensures.slots) (λ k e t. ap (λ (s : List (Option Entry)). hulls_of (slot s k)) c.in_ok-reserve.ensures.slots) c.self.invariant.forest.present
+replace-changed-requires-clause-whole c = IsWhole-same (node_at (record { slots = c.self.inside.store.slots; marking = c.self.inside.marking; roots = c.self.inside.roots.list; marked_roots = c.self.inside.roots.former; mode = c.self.inside.mode })) _ (hulls_at (record { slots = c.self.inside.store.slots; marking = c.self.inside.marking; roots = c.self.inside.roots.list; marked_roots = c.self.inside.roots.former; mode = c.self.inside.mode })) _ (λ k. ap (λ (s : List (Option SlotEntry)). present_of (slot s k)) c.in_ok-reserve.ensures.slots) (λ k e t. ap (λ (s : List (Option SlotEntry)). hulls_of (slot s k)) c.in_ok-reserve.ensures.slots) c.self.invariant.forest.present
 
 pub replace-changed-requires-clause-went : goal.replace-changed-requires-clause-went
 replace-changed-requires-clause-went c k =
-    let there = ap (λ (s : List (Option Entry)). present_of (slot s c.args.id)) c.in_ok-reserve.ensures.slots ∙ (ap (λ (v : ForestView). node_at v c.args.id) c.self.view_is ∙ c.requires.here.1) in
-    let whole : IsWhole (λ k. present_of (at c.reserve.new.self k)) (λ k. hulls_of (at c.reserve.new.self k)) = IsWhole-same (node_at (record { slots = c.self.inside.store.slots; marking = c.self.inside.marking; roots = c.self.inside.roots.list; marked_roots = c.self.inside.roots.former; mode = c.self.inside.mode })) _ (hulls_at (record { slots = c.self.inside.store.slots; marking = c.self.inside.marking; roots = c.self.inside.roots.list; marked_roots = c.self.inside.roots.former; mode = c.self.inside.mode })) _ (λ k. ap (λ (s : List (Option Entry)). present_of (slot s k)) c.in_ok-reserve.ensures.slots) (λ k e t. ap (λ (s : List (Option Entry)). hulls_of (slot s k)) c.in_ok-reserve.ensures.slots) c.self.invariant.forest.present in
+    let there = ap (λ (s : List (Option SlotEntry)). present_of (slot s c.args.id)) c.in_ok-reserve.ensures.slots ∙ (ap (λ (v : ForestView). node_at v c.args.id) c.self.view_is ∙ c.requires.here.1) in
+    let whole : IsWhole (λ k. present_of (at c.reserve.new.self k)) (λ k. hulls_of (at c.reserve.new.self k)) = IsWhole-same (node_at (record { slots = c.self.inside.store.slots; marking = c.self.inside.marking; roots = c.self.inside.roots.list; marked_roots = c.self.inside.roots.former; mode = c.self.inside.mode })) _ (hulls_at (record { slots = c.self.inside.store.slots; marking = c.self.inside.marking; roots = c.self.inside.roots.list; marked_roots = c.self.inside.roots.former; mode = c.self.inside.mode })) _ (λ k. ap (λ (s : List (Option SlotEntry)). present_of (slot s k)) c.in_ok-reserve.ensures.slots) (λ k e t. ap (λ (s : List (Option SlotEntry)). hulls_of (slot s k)) c.in_ok-reserve.ensures.slots) c.self.invariant.forest.present in
     let gathered : c.in_ok-plan.plan.went.items ≡ found (λ k. at c.reserve.new.self k) (going (λ d. kids (at c.reserve.new.self d)) (256 - depth_at (at c.reserve.new.self c.args.id)) (λ k w. stay_of (at c.reserve.new.self k) w) (kids (at c.reserve.new.self c.args.id)) c.args.news.items (length (kids (at c.reserve.new.self c.args.id)))) =
     rw (← c.as_slice.ensures.value, ← c.depth_of-depth.ensures) c.in_ok-plan.ensures.went in
     ap (λ (l : List Moved). is_listed l k) gathered
@@ -55,32 +55,32 @@ replace-changed-requires-clause-went c k =
 
 pub cover_root-requires-clause-tops : goal.cover_root-requires-clause-tops
 cover_root-requires-clause-tops c = tops_replaced (λ k. present_of (at c.reserve.new.self k)) (λ k. present_of (at c.replace-changed.new.store k)) c.self.inside.roots.list c.args.id c.args.state c.args.news.items _ c.replace-changed.ensures.replaced
-    (IsTree-same (node_at (record { slots = c.self.inside.store.slots; marking = c.self.inside.marking; roots = c.self.inside.roots.list; marked_roots = c.self.inside.roots.former; mode = c.self.inside.mode })) (λ k. present_of (at c.reserve.new.self k)) (λ k. ap (λ (s : List (Option Entry)). present_of (slot s k)) c.in_ok-reserve.ensures.slots) c.self.invariant.forest.present.tree)
-    (HasRoots-same (node_at (record { slots = c.self.inside.store.slots; marking = c.self.inside.marking; roots = c.self.inside.roots.list; marked_roots = c.self.inside.roots.former; mode = c.self.inside.mode })) (λ k. present_of (at c.reserve.new.self k)) c.self.inside.roots.list (λ k. ap (λ (s : List (Option Entry)). present_of (slot s k)) c.in_ok-reserve.ensures.slots) c.self.invariant.forest.tops)
+    (IsTree-same (node_at (record { slots = c.self.inside.store.slots; marking = c.self.inside.marking; roots = c.self.inside.roots.list; marked_roots = c.self.inside.roots.former; mode = c.self.inside.mode })) (λ k. present_of (at c.reserve.new.self k)) (λ k. ap (λ (s : List (Option SlotEntry)). present_of (slot s k)) c.in_ok-reserve.ensures.slots) c.self.invariant.forest.present.tree)
+    (HasRoots-same (node_at (record { slots = c.self.inside.store.slots; marking = c.self.inside.marking; roots = c.self.inside.roots.list; marked_roots = c.self.inside.roots.former; mode = c.self.inside.mode })) (λ k. present_of (at c.reserve.new.self k)) c.self.inside.roots.list (λ k. ap (λ (s : List (Option SlotEntry)). present_of (slot s k)) c.in_ok-reserve.ensures.slots) c.self.invariant.forest.tops)
 
 pub cover_root-requires-clause-others : goal.cover_root-requires-clause-others
 cover_root-requires-clause-others c =
     covered_but (node_at (record { slots = c.self.inside.store.slots; marking = c.self.inside.marking; roots = c.self.inside.roots.list; marked_roots = c.self.inside.roots.former; mode = c.self.inside.mode })) c.self.inside.roots.list (hulls_at (record { slots = c.self.inside.store.slots; marking = c.self.inside.marking; roots = c.self.inside.roots.list; marked_roots = c.self.inside.roots.former; mode = c.self.inside.mode })) (λ k. hulls_of (at c.replace-changed.new.store k)) c.self.inside.blocks c.replace-changed.result c.self.invariant.forest.tops
-    (λ k d t top n. c.replace-changed.ensures.others k d (ap (λ (s : List (Option Entry)). present_of (slot s k)) c.in_ok-reserve.ensures.slots ∙ t) top n ∙ ap (λ (s : List (Option Entry)). hulls_of (slot s k)) c.in_ok-reserve.ensures.slots)
+    (λ k d t top n. c.replace-changed.ensures.others k d (ap (λ (s : List (Option SlotEntry)). present_of (slot s k)) c.in_ok-reserve.ensures.slots ∙ t) top n ∙ ap (λ (s : List (Option SlotEntry)). hulls_of (slot s k)) c.in_ok-reserve.ensures.slots)
     c.self.invariant.covered
 
 pub invariant_of-self-then-not-self : goal.invariant_of-self-then-not-self
 invariant_of-self-then-not-self c = record {
   forest = IsForest-settled (record { slots = c.replace-changed.new.store.slots; marking = c.self.inside.marking; roots = c.self.inside.roots.list; marked_roots = c.self.inside.roots.former; mode = c.self.inside.mode }) _ (λ k. c.settle.ensures k) c.if-not-self.true c.replace-changed.ensures.whole
       (tops_replaced (λ k. present_of (at c.reserve.new.self k)) (λ k. present_of (at c.replace-changed.new.store k)) c.self.inside.roots.list c.args.id c.args.state c.args.news.items _ c.replace-changed.ensures.replaced
-      (IsTree-same (node_at (record { slots = c.self.inside.store.slots; marking = c.self.inside.marking; roots = c.self.inside.roots.list; marked_roots = c.self.inside.roots.former; mode = c.self.inside.mode })) (λ k. present_of (at c.reserve.new.self k)) (λ k. ap (λ (s : List (Option Entry)). present_of (slot s k)) c.in_ok-reserve.ensures.slots) c.self.invariant.forest.present.tree)
-      (HasRoots-same (node_at (record { slots = c.self.inside.store.slots; marking = c.self.inside.marking; roots = c.self.inside.roots.list; marked_roots = c.self.inside.roots.former; mode = c.self.inside.mode })) (λ k. present_of (at c.reserve.new.self k)) c.self.inside.roots.list (λ k. ap (λ (s : List (Option Entry)). present_of (slot s k)) c.in_ok-reserve.ensures.slots) c.self.invariant.forest.tops)) (c.self.invariant.forest.unmarked c.if-not-self.true);
+      (IsTree-same (node_at (record { slots = c.self.inside.store.slots; marking = c.self.inside.marking; roots = c.self.inside.roots.list; marked_roots = c.self.inside.roots.former; mode = c.self.inside.mode })) (λ k. present_of (at c.reserve.new.self k)) (λ k. ap (λ (s : List (Option SlotEntry)). present_of (slot s k)) c.in_ok-reserve.ensures.slots) c.self.invariant.forest.present.tree)
+      (HasRoots-same (node_at (record { slots = c.self.inside.store.slots; marking = c.self.inside.marking; roots = c.self.inside.roots.list; marked_roots = c.self.inside.roots.former; mode = c.self.inside.mode })) (λ k. present_of (at c.reserve.new.self k)) c.self.inside.roots.list (λ k. ap (λ (s : List (Option SlotEntry)). present_of (slot s k)) c.in_ok-reserve.ensures.slots) c.self.invariant.forest.tops)) (c.self.invariant.forest.unmarked c.if-not-self.true);
   covered = covered_part c.cover_root.new.blocks c.self.inside.roots.list _ (λ k. hulls_of (at c.replace-changed.new.store k)) _ refl (λ k h e. settled_hulls (at c.replace-changed.new.store k) h (sym (ap hulls_of (c.settle.ensures k)) ∙ e)) c.cover_root.ensures;
 }
 
 pub invariant_of-self-else-not-self : goal.invariant_of-self-else-not-self
 invariant_of-self-else-not-self c = record {
   forest = IsForest-marked (record { slots = c.self.inside.store.slots; marking = c.self.inside.marking; roots = c.self.inside.roots.list; marked_roots = c.self.inside.roots.former; mode = c.self.inside.mode }) _ c.self.invariant.forest c.replace-changed.ensures.whole c.if-not-self.false c.if-not-self.false
-      (λ k. c.replace-changed.ensures.marked c.if-not-self.false k ∙ ap (λ (s : List (Option Entry)). marked_of (slot s k)) c.in_ok-reserve.ensures.slots)
-      (λ k. c.replace-changed.ensures.marked_hulls c.if-not-self.false k ∙ ap (λ (s : List (Option Entry)). marked_hulls_of (slot s k)) c.in_ok-reserve.ensures.slots)
+      (λ k. c.replace-changed.ensures.marked c.if-not-self.false k ∙ ap (λ (s : List (Option SlotEntry)). marked_of (slot s k)) c.in_ok-reserve.ensures.slots)
+      (λ k. c.replace-changed.ensures.marked_hulls c.if-not-self.false k ∙ ap (λ (s : List (Option SlotEntry)). marked_hulls_of (slot s k)) c.in_ok-reserve.ensures.slots)
       (tops_replaced (λ k. present_of (at c.reserve.new.self k)) (λ k. present_of (at c.replace-changed.new.store k)) c.self.inside.roots.list c.args.id c.args.state c.args.news.items _ c.replace-changed.ensures.replaced
-      (IsTree-same (node_at (record { slots = c.self.inside.store.slots; marking = c.self.inside.marking; roots = c.self.inside.roots.list; marked_roots = c.self.inside.roots.former; mode = c.self.inside.mode })) (λ k. present_of (at c.reserve.new.self k)) (λ k. ap (λ (s : List (Option Entry)). present_of (slot s k)) c.in_ok-reserve.ensures.slots) c.self.invariant.forest.present.tree)
-      (HasRoots-same (node_at (record { slots = c.self.inside.store.slots; marking = c.self.inside.marking; roots = c.self.inside.roots.list; marked_roots = c.self.inside.roots.former; mode = c.self.inside.mode })) (λ k. present_of (at c.reserve.new.self k)) c.self.inside.roots.list (λ k. ap (λ (s : List (Option Entry)). present_of (slot s k)) c.in_ok-reserve.ensures.slots) c.self.invariant.forest.tops)) refl;
+      (IsTree-same (node_at (record { slots = c.self.inside.store.slots; marking = c.self.inside.marking; roots = c.self.inside.roots.list; marked_roots = c.self.inside.roots.former; mode = c.self.inside.mode })) (λ k. present_of (at c.reserve.new.self k)) (λ k. ap (λ (s : List (Option SlotEntry)). present_of (slot s k)) c.in_ok-reserve.ensures.slots) c.self.invariant.forest.present.tree)
+      (HasRoots-same (node_at (record { slots = c.self.inside.store.slots; marking = c.self.inside.marking; roots = c.self.inside.roots.list; marked_roots = c.self.inside.roots.former; mode = c.self.inside.mode })) (λ k. present_of (at c.reserve.new.self k)) c.self.inside.roots.list (λ k. ap (λ (s : List (Option SlotEntry)). present_of (slot s k)) c.in_ok-reserve.ensures.slots) c.self.invariant.forest.tops)) refl;
   covered = c.cover_root.ensures;
 }
 
@@ -91,7 +91,7 @@ returns-clause-replaced c =
       | else-not-self w ↦ λ k. rw w.self-is refl
     ] in
     Replaces-from _ _ _ _ _ _ (ReplacedBy-same (λ k. present_of (at c.reserve.new.self k)) (λ k. present_of (at c.replace-changed.new.store k)) _ _ c.args.id c.args.state c.args.news.items _
-    (λ k. ap (λ (v : ForestView). node_at v k) (sym c.self.view_is) ∙ ap (λ (s : List (Option Entry)). present_of (slot s k)) (sym c.in_ok-reserve.ensures.slots))
+    (λ k. ap (λ (v : ForestView). node_at v k) (sym c.self.view_is) ∙ ap (λ (s : List (Option SlotEntry)). present_of (slot s k)) (sym c.in_ok-reserve.ensures.slots))
     now c.replace-changed.ensures.replaced)
 
 pub returns-clause-went : goal.returns-clause-went
@@ -100,8 +100,8 @@ returns-clause-went c =
       | then-not-self w ↦ λ k. rw w.self-is (ap present_of (w.settle.ensures k) ∙ present_settled (at c.replace-changed.new.store k))
       | else-not-self w ↦ λ k. rw w.self-is refl
     ] in
-    let old : (k : ℕ) → node_at c.args.self.now k ≡ present_of (at c.reserve.new.self k) = (λ k. ap (λ (v : ForestView). node_at v k) (sym c.self.view_is) ∙ ap (λ (s : List (Option Entry)). present_of (slot s k)) (sym c.in_ok-reserve.ensures.slots)) in
-    let whole : IsWhole (λ k. present_of (at c.reserve.new.self k)) (λ k. hulls_of (at c.reserve.new.self k)) = IsWhole-same (node_at (record { slots = c.self.inside.store.slots; marking = c.self.inside.marking; roots = c.self.inside.roots.list; marked_roots = c.self.inside.roots.former; mode = c.self.inside.mode })) _ (hulls_at (record { slots = c.self.inside.store.slots; marking = c.self.inside.marking; roots = c.self.inside.roots.list; marked_roots = c.self.inside.roots.former; mode = c.self.inside.mode })) _ (λ k. ap (λ (s : List (Option Entry)). present_of (slot s k)) c.in_ok-reserve.ensures.slots) (λ k e t. ap (λ (s : List (Option Entry)). hulls_of (slot s k)) c.in_ok-reserve.ensures.slots) c.self.invariant.forest.present in
+    let old : (k : ℕ) → node_at c.args.self.now k ≡ present_of (at c.reserve.new.self k) = (λ k. ap (λ (v : ForestView). node_at v k) (sym c.self.view_is) ∙ ap (λ (s : List (Option SlotEntry)). present_of (slot s k)) (sym c.in_ok-reserve.ensures.slots)) in
+    let whole : IsWhole (λ k. present_of (at c.reserve.new.self k)) (λ k. hulls_of (at c.reserve.new.self k)) = IsWhole-same (node_at (record { slots = c.self.inside.store.slots; marking = c.self.inside.marking; roots = c.self.inside.roots.list; marked_roots = c.self.inside.roots.former; mode = c.self.inside.mode })) _ (hulls_at (record { slots = c.self.inside.store.slots; marking = c.self.inside.marking; roots = c.self.inside.roots.list; marked_roots = c.self.inside.roots.former; mode = c.self.inside.mode })) _ (λ k. ap (λ (s : List (Option SlotEntry)). present_of (slot s k)) c.in_ok-reserve.ensures.slots) (λ k e t. ap (λ (s : List (Option SlotEntry)). hulls_of (slot s k)) c.in_ok-reserve.ensures.slots) c.self.invariant.forest.present in
     let gathered : c.in_ok-plan.plan.went.items ≡ found (λ k. at c.reserve.new.self k) (going (λ d. kids (at c.reserve.new.self d)) (256 - depth_at (at c.reserve.new.self c.args.id)) (λ k w. stay_of (at c.reserve.new.self k) w) (kids (at c.reserve.new.self c.args.id)) c.args.news.items (length (kids (at c.reserve.new.self c.args.id)))) =
     rw (← c.as_slice.ensures.value, ← c.depth_of-depth.ensures) c.in_ok-plan.ensures.went in
     ListsMoved-same (λ k. present_of (at c.reserve.new.self k)) (λ k. present_of (at c.replace-changed.new.store k)) _ _ _ old now
@@ -114,8 +114,8 @@ returns-clause-came c =
       | then-not-self w ↦ λ k. rw w.self-is (ap present_of (w.settle.ensures k) ∙ present_settled (at c.replace-changed.new.store k))
       | else-not-self w ↦ λ k. rw w.self-is refl
     ] in
-    let old : (k : ℕ) → node_at c.args.self.now k ≡ present_of (at c.reserve.new.self k) = (λ k. ap (λ (v : ForestView). node_at v k) (sym c.self.view_is) ∙ ap (λ (s : List (Option Entry)). present_of (slot s k)) (sym c.in_ok-reserve.ensures.slots)) in
-    let whole : IsWhole (λ k. present_of (at c.reserve.new.self k)) (λ k. hulls_of (at c.reserve.new.self k)) = IsWhole-same (node_at (record { slots = c.self.inside.store.slots; marking = c.self.inside.marking; roots = c.self.inside.roots.list; marked_roots = c.self.inside.roots.former; mode = c.self.inside.mode })) _ (hulls_at (record { slots = c.self.inside.store.slots; marking = c.self.inside.marking; roots = c.self.inside.roots.list; marked_roots = c.self.inside.roots.former; mode = c.self.inside.mode })) _ (λ k. ap (λ (s : List (Option Entry)). present_of (slot s k)) c.in_ok-reserve.ensures.slots) (λ k e t. ap (λ (s : List (Option Entry)). hulls_of (slot s k)) c.in_ok-reserve.ensures.slots) c.self.invariant.forest.present in
+    let old : (k : ℕ) → node_at c.args.self.now k ≡ present_of (at c.reserve.new.self k) = (λ k. ap (λ (v : ForestView). node_at v k) (sym c.self.view_is) ∙ ap (λ (s : List (Option SlotEntry)). present_of (slot s k)) (sym c.in_ok-reserve.ensures.slots)) in
+    let whole : IsWhole (λ k. present_of (at c.reserve.new.self k)) (λ k. hulls_of (at c.reserve.new.self k)) = IsWhole-same (node_at (record { slots = c.self.inside.store.slots; marking = c.self.inside.marking; roots = c.self.inside.roots.list; marked_roots = c.self.inside.roots.former; mode = c.self.inside.mode })) _ (hulls_at (record { slots = c.self.inside.store.slots; marking = c.self.inside.marking; roots = c.self.inside.roots.list; marked_roots = c.self.inside.roots.former; mode = c.self.inside.mode })) _ (λ k. ap (λ (s : List (Option SlotEntry)). present_of (slot s k)) c.in_ok-reserve.ensures.slots) (λ k e t. ap (λ (s : List (Option SlotEntry)). hulls_of (slot s k)) c.in_ok-reserve.ensures.slots) c.self.invariant.forest.present in
     let t = λ (k : ℕ). at c.replace-changed.new.store k in
     let gathered = c.replace-changed.ensures.came ∙ ap (λ (l : List Moved). l ++ found t (coming (kids (at c.reserve.new.self c.args.id)) (kids (t c.args.id)) (length (kids (t c.args.id))))) c.in_ok-plan.ensures.empty in
     ListsMoved-same (λ k. present_of (at c.replace-changed.new.store k)) (λ k. present_of (at c.reserve.new.self k)) _ _ _ now old
@@ -128,9 +128,9 @@ returns-clause-unmarked c k h t =
       | then-not-self w ↦ λ k. rw w.self-is (ap present_of (w.settle.ensures k) ∙ present_settled (at c.replace-changed.new.store k))
       | else-not-self w ↦ λ k. rw w.self-is refl
     ] in
-    let same : node_at c.args.self.now k ≡ present_of (at c.reserve.new.self k) = ap (λ (v : ForestView). node_at v k) (sym c.self.view_is) ∙ ap (λ (s : List (Option Entry)). present_of (slot s k)) (sym c.in_ok-reserve.ensures.slots) in
+    let same : node_at c.args.self.now k ≡ present_of (at c.reserve.new.self k) = ap (λ (v : ForestView). node_at v k) (sym c.self.view_is) ∙ ap (λ (s : List (Option SlotEntry)). present_of (slot s k)) (sym c.in_ok-reserve.ensures.slots) in
     let x = is_there (present_of (at c.replace-changed.new.store k)) (ap is_some (sym (now k)) ∙ t) in
-    ap (λ (v : ForestView). marked_at v k) (sym c.self.view_is) ∙ ap (λ (s : List (Option Entry)). marked_of (slot s k)) (sym c.in_ok-reserve.ensures.slots) ∙ ap marked_of (c.replace-changed.ensures.vacant k x.0 (sym same ∙ h) x.1)
+    ap (λ (v : ForestView). marked_at v k) (sym c.self.view_is) ∙ ap (λ (s : List (Option SlotEntry)). marked_of (slot s k)) (sym c.in_ok-reserve.ensures.slots) ∙ ap marked_of (c.replace-changed.ensures.vacant k x.0 (sym same ∙ h) x.1)
 
 pub returns-clause-numbers : goal.returns-clause-numbers
 returns-clause-numbers c on k =
@@ -139,5 +139,5 @@ returns-clause-numbers c on k =
       | then-not-self w ↦ absurd (let no = w.if-not-self.true in cc)
       | else-not-self w ↦ rw w.self-is refl
     ] in
-    let old : slot_at c.args.self.now k ≡ at c.reserve.new.self k = ap (λ (v : ForestView). slot_at v k) (sym c.self.view_is) ∙ ap (λ (s : List (Option Entry)). slot s k) (sym c.in_ok-reserve.ensures.slots) in
-    subst (λ (s : Option Entry). StaysTaken s (slot_at c.if-not-self.self k)) (sym old) (subst (λ (s : Option Entry). StaysTaken (at c.reserve.new.self k) s) (sym now) (c.replace-changed.ensures.taken k))
+    let old : slot_at c.args.self.now k ≡ at c.reserve.new.self k = ap (λ (v : ForestView). slot_at v k) (sym c.self.view_is) ∙ ap (λ (s : List (Option SlotEntry)). slot s k) (sym c.in_ok-reserve.ensures.slots) in
+    subst (λ (s : Option SlotEntry). StaysTaken s (slot_at c.if-not-self.self k)) (sym old) (subst (λ (s : Option SlotEntry). StaysTaken (at c.reserve.new.self k) s) (sym now) (c.replace-changed.ensures.taken k))

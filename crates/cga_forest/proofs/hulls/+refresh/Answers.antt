@@ -1,7 +1,7 @@
 use Rattle.std.proofs.Common.{◌≡◌, ℕ, true, length, sym, subst, arith, ◌∙◌}
 use Rattle.std.specs.Prelude.{Option}
-use Rattle.cga_forest.specs.declared.entry.Entry.{Entry}
-use Rattle.cga_forest.specs.Due.{grown_of}
+use Rattle.cga_forest.specs.declared.slot_entry.SlotEntry.{SlotEntry}
+use Rattle.cga_forest.specs.HullsDue.{grown_of}
 use Rattle.cga_kept_hulls.specs.declared.hulls.Hulls.{Hulls}
 use Rattle.cga_kept_hulls.specs.Hull.{holds_hulls, over}
 use Rattle.cga_forest.specs.Hull.{own_hulls}
@@ -60,15 +60,15 @@ returns-else-not-is_like-clause-right t c =
 
 pub returns-in-Some-parent_at-clause-present : goal.returns-in-Some-parent_at-clause-present
 returns-in-Some-parent_at-clause-present t c k =
-    c.refresh.ensures.present k ∙ same_but (λ (s : Option Entry). present_of s) (λ n. at c.args.store.now n) (λ n. at c.set_hulls.new.store n) c.args.id c.set_hulls.ensures.others c.set_hulls.ensures.present k
+    c.refresh.ensures.present k ∙ same_but (λ (s : Option SlotEntry). present_of s) (λ n. at c.args.store.now n) (λ n. at c.set_hulls.new.store n) c.args.id c.set_hulls.ensures.others c.set_hulls.ensures.present k
 
 pub returns-in-Some-parent_at-clause-marked : goal.returns-in-Some-parent_at-clause-marked
 returns-in-Some-parent_at-clause-marked t c k =
-    c.refresh.ensures.marked k ∙ same_but (λ (s : Option Entry). marked_of s) (λ n. at c.args.store.now n) (λ n. at c.set_hulls.new.store n) c.args.id c.set_hulls.ensures.others c.set_hulls.ensures.marked k
+    c.refresh.ensures.marked k ∙ same_but (λ (s : Option SlotEntry). marked_of s) (λ n. at c.args.store.now n) (λ n. at c.set_hulls.new.store n) c.args.id c.set_hulls.ensures.others c.set_hulls.ensures.marked k
 
 pub returns-in-Some-parent_at-clause-marked_hulls : goal.returns-in-Some-parent_at-clause-marked_hulls
 returns-in-Some-parent_at-clause-marked_hulls t c on k =
-    c.refresh.ensures.marked_hulls on k ∙ same_but (λ (s : Option Entry). marked_hulls_of s) (λ n. at c.args.store.now n) (λ n. at c.set_hulls.new.store n) c.args.id c.set_hulls.ensures.others (c.set_hulls.ensures.marked_hulls on) k
+    c.refresh.ensures.marked_hulls on k ∙ same_but (λ (s : Option SlotEntry). marked_hulls_of s) (λ n. at c.args.store.now n) (λ n. at c.set_hulls.new.store n) c.args.id c.set_hulls.ensures.others (c.set_hulls.ensures.marked_hulls on) k
 
 pub returns-in-Some-parent_at-clause-taken : goal.returns-in-Some-parent_at-clause-taken
 returns-in-Some-parent_at-clause-taken t c k =

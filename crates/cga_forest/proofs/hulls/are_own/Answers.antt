@@ -4,7 +4,7 @@ use Rattle.std.specs.Prelude.{Option, slice_get}
 use Rattle.cga_kept_hulls.specs.declared.hulls.Hulls.{Hulls}
 use Rattle.cga_kept_hulls.specs.Hull.{holds_hulls, over}
 use Rattle.cga_kept_hulls.proofs.Door.{alike_itself, all_held, part_own}
-use Rattle.cga_forest.specs.declared.entry.Entry.{Entry}
+use Rattle.cga_forest.specs.declared.slot_entry.SlotEntry.{SlotEntry}
 use Rattle.cga_forest.specs.Hull.{hulls_known, own_hulls}
 use Rattle.cga_forest.specs.View.{at, hulls_of}
 use Rattle.cga_forest.proofs.hulls.are_own.Goals as goal
@@ -20,7 +20,7 @@ returns-then-has_own_hulls c told e is =
     let old : c.args.old.now ≡ own_hulls e.node = (cc) in
     let xs = e.children.items in
     let mine = ap (λ o. holds_hulls o (own_hulls e.node)) old ∙ first_so _ _ (alike_itself (own_hulls e.node)) in
-    let children = c.as_slice.ensures.value ∙ ap (λ (y : Entry). y.children.items) same in
+    let children = c.as_slice.ensures.value ∙ ap (λ (y : SlotEntry). y.children.items) same in
     let each = λ (i k : ℕ) (h : Hulls) (here : slice_get xs i ≡ Some k) (t : H k ≡ Some h).
     c.hold_each.ensures told i k h (ap (λ ys. slice_get ys i) children ∙ here) t in (
       all_held H (own_hulls e.node) c.args.old.now xs mine each,

@@ -2,7 +2,7 @@ use Rattle.std.proofs.Common.{◌≡◌, ◌∙◌, true, refl, sym}
 use Rattle.std.specs.Prelude.{Option, Some, is_some}
 use Rattle.cga_kept_hulls.specs.declared.hulls.Hulls.{Hulls}
 use Rattle.cga_marked.specs.Slab.{touch_when}
-use Rattle.cga_forest.specs.declared.entry.Entry.{Entry}
+use Rattle.cga_forest.specs.declared.slot_entry.SlotEntry.{SlotEntry}
 use Rattle.cga_forest.specs.View.{Seen, at, IsRewritten, keeps_former, rewritten, touched_entry, present_of, marked_of, hulls_of, marked_hulls_of}
 use Rattle.cga_forest.proofs.Books.{when_present, when_keeps, when_marked, when_hulls, when_marked_hulls}
 use Rattle.cga_forest.proofs.Changed.{changed, related_with}
@@ -16,7 +16,7 @@ returns-clause-marked c on boxed =
     let m = c.args.marking in
     let slot = at c.args.store.now c.args.id in
     let R = IsRewritten m (is_some c.args.spare) c.args.state c.args.children.items in
-    let P = λ (o : Option Entry). keeps_former m o ≡ true → is_some c.args.spare ≡ true in
+    let P = λ (o : Option SlotEntry). keeps_former m o ≡ true → is_some c.args.spare ≡ true in
     changed marked_of (λ (s : Option Seen). s) refl (λ x y. R x y × P (Some x)) (λ x y h. h.0.marked on h.1) m slot _ (when_marked m slot)
     (related_with P R (touch_when touched_entry m slot) _ (λ k. boxed (sym (when_keeps m m slot) ∙ k)) c.change.ensures.here)
 

@@ -10,7 +10,7 @@ list_children-loop-place-preserved g t c =
 pub list_children-returns : goal.list_children-returns
 list_children-returns g t c =
     let v = g.H.HullTree.view c.args.tree.now in
-    list_end v c.args.area.now c.args.left (v.children c.args.node) c.loop-place.place c.loop-place.out.items _ (omega (arith, c.loop-place-test.false, c.children-place-end.ensures)) c.loop-place.invariant
+    list_end v c.args.area.now c.args.left (v.children c.args.node) c.loop-place.place c.loop-place.out.items _ (omega (arith, c.loop-place-test.false, c.children-children.ensures)) c.loop-place.invariant
 
 pub list_from-returns : goal.list_from-returns
 list_from-returns g t c =

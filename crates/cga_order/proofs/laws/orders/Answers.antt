@@ -1,5 +1,6 @@
 use Rattle.std.proofs.Common.{ap}
-use Rattle.cga_order.proofs.Order.{rank_total, rank_exact, stamp_total}
+use Rattle.cga_order.specs.Total.{rank_total, stamp_total}
+use Rattle.cga_order.proofs.Order.{rank_exact}
 use Rattle.cga_order.proofs.Chains.{rank-place, stamps-place}
 use Rattle.cga_order.proofs.laws.orders.Goals as goal
 

@@ -3,7 +3,7 @@ use Rattle.std.proofs.lemmas.Cmp.{tied_itself}
 use Rattle.cga_word.specs.declared.mode.Mode.TheVariants.{Breadth}
 use Rattle.cga_order.specs.Seen.{chain_of}
 use Rattle.cga_order.specs.Stamp.{stamp_cmp}
-use Rattle.cga_order.proofs.Order.{stamp_total}
+use Rattle.cga_order.specs.Total.{stamp_total}
 use Rattle.cga_order.proofs.Shared.{shared-decided}
 use Rattle.cga_order.proofs.Tops.{IsWithin-from_IsTop}
 use Rattle.cga_order.proofs.walk.cmp_whole.Goals as goal

@@ -3,7 +3,7 @@ use Rattle.std.specs.Ordering.{is_eq}
 use Rattle.std.proofs.lemmas.Cmp.{tied_itself}
 use Rattle.cga_order.specs.Seen.{chain_of}
 use Rattle.cga_order.specs.Stamp.{stamp_cmp}
-use Rattle.cga_order.proofs.Order.{stamp_total}
+use Rattle.cga_order.specs.Total.{stamp_total}
 use Rattle.cga_order.proofs.walk.have_one_stamp.Goals as goal
 
 pub returns-then-is_alike : goal.returns-then-is_alike

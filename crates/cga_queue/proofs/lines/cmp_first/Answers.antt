@@ -1,7 +1,7 @@
 use Rattle.std.proofs.Common.{ℕ}
-use Rattle.cga_key.specs.declared.stamp_key.StampKey.{StampKey}
-use Rattle.cga_key.specs.Key.{key_cmp}
-use Rattle.cga_key.specs.KeyLaws.{key_total}
+use Rattle.cga_order.specs.declared.stamp_key.StampKey.{StampKey}
+use Rattle.cga_order.specs.Key.{key_cmp}
+use Rattle.cga_order.specs.KeyLaws.{key_total}
 use Rattle.cga_queue.proofs.LinesTold.{compared, opened_at}
 use Rattle.cga_queue.proofs.lines.cmp_first.Goals as goal
 

@@ -1,6 +1,6 @@
 use Rattle.std.proofs.Common.{refl}
-use Rattle.cga_key.specs.Key.{key_cmp}
-use Rattle.cga_key.specs.KeyLaws.{key_total}
+use Rattle.cga_order.specs.Key.{key_cmp}
+use Rattle.cga_order.specs.KeyLaws.{key_total}
 use Rattle.cga_queue.proofs.LinesTold.{last_at, lt_is}
 use Rattle.cga_queue.proofs.TwoLines.{all_before}
 use Rattle.cga_queue.proofs.lines.is_behind_late.Goals as goal

@@ -1,5 +1,5 @@
-use Rattle.cga_key.specs.Key.{key_cmp}
-use Rattle.cga_key.specs.KeyLaws.{key_total}
+use Rattle.cga_order.specs.Key.{key_cmp}
+use Rattle.cga_order.specs.KeyLaws.{key_total}
 use Rattle.cga_queue.proofs.LinesTold.{lt_is, up_to_before}
 use Rattle.cga_queue.proofs.lines.is_behind_map.Goals as goal
 

@@ -1,6 +1,6 @@
 use Rattle.std.proofs.Common.{subst}
-use Rattle.cga_key.specs.Key.{key_cmp}
-use Rattle.cga_key.specs.KeyLaws.{key_total}
+use Rattle.cga_order.specs.Key.{key_cmp}
+use Rattle.cga_order.specs.KeyLaws.{key_total}
 use Rattle.cga_queue.specs.Lines.{FirstsCompare}
 use Rattle.cga_queue.proofs.LinesTold.{both_took, late_took, late_some, map_took, some_there}
 use Rattle.cga_queue.proofs.lines.take_out.Goals as goal

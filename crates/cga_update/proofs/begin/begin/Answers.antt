@@ -8,7 +8,7 @@ use Rattle.cga_depend.specs.declared.log.Pairing.{Pairing}
 use Rattle.cga_depend.specs.Pairs.{nodes_in}
 use Rattle.cga_queue.specs.Remembered.{IsRemembered, RememberedView}
 use Rattle.cga_update.specs.Begun.{HasMoved, IsFirst}
-use Rattle.cga_same.specs.Both.{BothGrammars}
+use Rattle.cga_depend.specs.Both.{BothGrammars}
 use Rattle.cga_update.specs.Last.{AskersAreUpTo, IsTold}
 use Rattle.cga_update.specs.Log.{IsLogged}
 use Rattle.cga_update.specs.Near.{IsAny, IsChangedFor, IsPricedFor, KeepsPriorities}
@@ -21,7 +21,7 @@ use Rattle.cga_update.proofs.Lasting.{first_up_to}
 use Rattle.cga_update.proofs.Logged.{drawn_from, log_from}
 use Rattle.cga_update.proofs.Nearby.{moved_kept}
 use Rattle.cga_update.proofs.Rooting.{IsRooted, still, wanted_after}
-use Rattle.cga_update.proofs.Unkept.{all_came, first_due, is_zero}
+use Rattle.cga_update.proofs.Unkept.{all_came, first_due, is_zero, none_asks}
 use Rattle.cga_update.proofs.begin.begin.Goals as goal
 
 pub remove_roots-requires : goal.remove_roots-requires
@@ -101,7 +101,7 @@ returns-clause-begun g c =
         queued = begins.1.1;
         due = first_due start new.mode;
         remembered = λ k is. None-not-Some (Some k) (subst (λ (ns : RememberedView). IsRemembered ns k) c.requires.fresh.remembered is);
-        all_came = λ is k x there. r.marked k ∙ all_came (node_at first) before v keeps (is_zero c.count.result _ c.count.ensures is) k x there;
+        all_queued = λ is. none_asks v new.mode _ (λ k x there. r.marked k ∙ all_came (node_at first) before v keeps (is_zero c.count.result _ c.count.ensures is) k x there);
         priced = λ is. proof.priced_now start (subst (λ (g : BothGrammars). KeepsPriorities g.before g.after d) grammars (c.in_ok-priced.ensures.priced is));
         last = subst (λ mode. AskersAreUpTo mode c.in_ok-last.last new.grammar v) (c.in_ok-priced.ensures.grows.mode ∙ c.in_ok-queue_rooted.ensures.mode ∙ c.requires.fresh.mode)
             (first_up_to start a.mode c.in_ok-last.last (subst (λ (g : Grammar). IsTold a.mode v d old.grammar g c.in_ok-last.last) known c.in_ok-last.ensures.told));

@@ -3,8 +3,8 @@ use Rattle.cga_depend.specs.Pairs.{nodes_in}
 use Rattle.cga_order.specs.World.{Among}
 use Rattle.cga_queue.specs.Agenda.{HasAll}
 use Rattle.cga_queue.proofs.Door.{all_kept, grows_not, grows_on}
-use Rattle.cga_same.specs.Both.{BothGrammars}
-use Rattle.cga_same.specs.Changed.{IsNoted}
+use Rattle.cga_depend.specs.Both.{BothGrammars}
+use Rattle.cga_depend.specs.Changed.{IsNoted}
 use Rattle.cga_update.specs.Near.{IsAny, IsPricedFor, KeepsPriority}
 use Rattle.cga_update.specs.Queue.{chains_of}
 use Rattle.cga_update.proofs.InLoops.{item_at}

@@ -1,6 +1,6 @@
 use Rattle.std.proofs.Common.{ap, subst}
-use Rattle.cga_same.specs.Both.{BothGrammars}
-use Rattle.cga_same.specs.Changed.{AreFacts}
+use Rattle.cga_depend.specs.Both.{BothGrammars}
+use Rattle.cga_depend.specs.Changed.{AreFacts}
 use Rattle.cga_update.proofs.Facts.{on_value}
 use Rattle.cga_update.proofs.turn.facts_at.Goals as goal
 

@@ -1,10 +1,12 @@
 use Rattle.std.proofs.Common.{◌∙◌, ◌++◌, refl, subst, List, ℕ}
 use Rattle.cga_forest.specs.declared.moved.Moved.{Moved}
 use Rattle.cga_queue.specs.Remembered.{IsRemembered}
-use Rattle.cga_queue.proofs.Door.{on_ok_both}
+use Rattle.cga_queue.proofs.Door.{on_ok}
 use Rattle.cga_update.specs.Askers.{IsOneOf}
+use Rattle.cga_update.specs.Follow.{IsRested}
 use Rattle.cga_update.specs.Log.{came_of, drawn_of, went_of}
 use Rattle.cga_update.proofs.DueNodes.{one_each}
+use Rattle.cga_update.proofs.Following.{followed_more, laters_of}
 use Rattle.cga_update.proofs.turn.place.Goals as goal
 
 pub follow-requires : goal.follow-requires
@@ -19,20 +21,28 @@ returns-clause-placed g c =
     let came = c.as_slice-2.ensures in
     let before = c.in_ok-note_went.ensures in
     let after = c.in_ok-note_came.ensures in
-    on_ok_both c.follow.result
-    (λ followed remembered. (
-      c.in_ok-change.change,
+    let follow = c.in_ok-follow.ensures in
+    let v = c.replace_children.new.self in
+    let change = c.in_ok-change.change in
+    let id = c.args.id in
+    let nobody = c.has_nobody_left-nobody.result in
+    let next = c.follow.new.agenda in
+    let last = c.queue_rest.new.agenda in
+    on_ok c.queue_rest.result
+    (λ (rest : IsRested v id c.follow.new.remembered c.queue_rest.new.remembered was.all_queued c.queue_rest.new.all_queued next last). (
+      change,
       record {
         replaced = done.replaced;
         unmarked = done.unmarked;
         went = done.went;
         came = done.came;
-        nobody = c.has_nobody_left-nobody.result;
+        nobody = nobody;
         nobody_left = c.has_nobody_left-nobody.ensures;
         less = less;
         forgot = subst (λ (moved : List Moved). (k : ℕ) → IsRemembered less k → IsRemembered was.remembered k × (IsOneOf moved k → ⊥)) c.as_slice-3.ensures c.forget_all.ensures;
-        followed = followed;
-        remembered = remembered;
+        followed = λ are. followed_more v id change nobody was.agenda next last (follow.followed are) rest.grows;
+        remembered = λ are. rest.remembered (follow.remembered are);
+        all_queued = λ are is. laters_of v id change nobody was.agenda next last was.all_queued (follow.followed are) (rest.all (follow.remembered are) is);
         log = after.log ∙ (λ i. before.log i ++ came_of c.as_slice-2.result.now) ∙ (λ i. (was.log.items ++ went_of (went i)) ++ came_of (came i));
         gone = before.gone ∙ (λ i. was.gone.items ++ drawn_of (went i));
         come = after.come ∙ (λ i. was.come.items ++ drawn_of (came i));
@@ -44,11 +54,13 @@ returns-clause-placed g c =
           symbols = done.symbols;
           rules = refl;
           grammars = refl;
-          all_came = refl;
           priced = refl;
           last = refl;
         };
         forest = c.laws.ensures;
       },
     ))
-    c.follow.ensures.followed c.follow.ensures.remembered
+    c.queue_rest.ensures
+
+pub queue_rest-requires : goal.queue_rest-requires
+queue_rest-requires g c = record { one = one_each c.replace_children.new.self c.laws.ensures }

@@ -1,7 +1,7 @@
 use Rattle.std.proofs.Common.{◌≡◌, ◌<◌, ◌≤◌, length, get_or, ap, ◌∙◌, subst}
 use Rattle.cga_check.specs.declared.said.Said.{Said}
 use Rattle.cga_expand.specs.Derivation.{priority_of}
-use Rattle.cga_key.specs.Children.{IsRootKey}
+use Rattle.cga_order.specs.ChildKeys.{IsRootKey}
 use Rattle.cga_expand.proofs.Door.{said_priority}
 use Rattle.cga_derive.proofs.Streaks.{boxed_came, boxed_lent}
 use Rattle.cga_derive.proofs.Starting.{roots-more, keys-more, started}

@@ -1,8 +1,8 @@
 use Rattle.std.proofs.Common.{ap, subst, ◌∙◌}
 use Rattle.std.specs.BTreeMap.{insert_entry}
 use Rattle.cga_check.specs.declared.said.Said.{Said}
-use Rattle.cga_key.specs.Key.{key_cmp}
-use Rattle.cga_key.specs.Children.{IsChildKey}
+use Rattle.cga_order.specs.Key.{key_cmp}
+use Rattle.cga_order.specs.ChildKeys.{IsChildKey}
 use Rattle.cga_expand.proofs.Door.{said_priority}
 use Rattle.cga_derive.proofs.run.Run.wait.Goals as goal
 

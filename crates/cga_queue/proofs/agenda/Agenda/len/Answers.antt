@@ -1,5 +1,5 @@
 use Rattle.std.proofs.Common.{◌∙◌, ap, arith, sym}
-use Rattle.cga_key.specs.Key.{key_cmp}
+use Rattle.cga_order.specs.Key.{key_cmp}
 use Rattle.cga_queue.specs.Agenda.{AgendaView}
 use Rattle.cga_queue.proofs.NoEntry.{counted_none, none_counted}
 use Rattle.cga_queue.proofs.agenda.Agenda.len.Goals as goal

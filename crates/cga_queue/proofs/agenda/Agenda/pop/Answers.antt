@@ -1,6 +1,6 @@
 use Rattle.std.proofs.Common.{◌≡◌, subst, suc, length}
 use Rattle.std.specs.Prelude.{IfSome, IfNone}
-use Rattle.cga_key.specs.Key.{chain_of_key}
+use Rattle.cga_order.specs.Key.{chain_of_key}
 use Rattle.cga_queue.specs.Agenda.{IsPopped, NamesNone}
 use Rattle.cga_queue.proofs.Stamped.{pop_lines, pop_none, pop_same, pop_shorter, pop_viewed, viewed}
 use Rattle.cga_queue.proofs.agenda.Agenda.pop.Goals as goal

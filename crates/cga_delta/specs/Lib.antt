@@ -1,4 +1,0 @@
-pub mod Words
-pub mod Text
-pub mod Reader
-pub mod Laws

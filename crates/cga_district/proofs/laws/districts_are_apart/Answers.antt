@@ -1,5 +1,0 @@
-use Rattle.cga_district.proofs.Districts.{districts}
-use Rattle.cga_district.proofs.laws.districts_are_apart.Goals as goal
-
-pub returns : goal.returns
-returns g c = districts c.own_members_are_the_whole.ensures

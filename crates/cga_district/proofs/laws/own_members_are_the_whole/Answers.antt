@@ -1,5 +1,0 @@
-use Rattle.cga_district.proofs.Halos.{whole}
-use Rattle.cga_district.proofs.laws.own_members_are_the_whole.Goals as goal
-
-pub returns : goal.returns
-returns g c = λ derivation laws jobs are alike. whole derivation laws jobs are alike c.consistent_is_within.ensures

@@ -1,2 +1,0 @@
-mod KeyAgrees
-pub mod Door

@@ -1,8 +1,0 @@
-mod Lists
-mod ById
-mod Values
-mod Ends
-mod Groups
-mod Told
-mod Noted
-mod Rules

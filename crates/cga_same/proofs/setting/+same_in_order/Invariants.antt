@@ -1,5 +1,0 @@
-use Rattle.std.proofs.Common.{length}
-use Rattle.cga_same.proofs.setting.+same_in_order.Given as goal
-
-abbrev pub decreases-same_in_order : goal.decreases-same_in_order
-decreases-same_in_order l = length l.old.now
