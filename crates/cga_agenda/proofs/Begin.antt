@@ -29,13 +29,13 @@ module _ {N A B F P : Type 0} (edit : Edit N A B F P) where
     from_children : (n : N) → ChildrenFrom edit start nodes n
     from_children n c j b i child h = elim (begun.from c j b h) [
       | inl old ↦ (j, b, old)
-      | inr came ↦ absurd (root_no_child edit laws start started c n i came.0 child)
+      | inr created ↦ absurd (root_no_child edit laws start started c n i created.0 child)
     ]
 
     to_children : (n : N) (k : Kind F P) (a : A) → Keeps start n k a → Keeps nodes n k a → ChildrenTo edit start nodes n
     to_children n k a h g c j b i child there = elim (begun.to c j b there) [
       | inl stays ↦ (j, b, stays, refl, λ e. refl)
-      | inr went ↦ absurd (went.0 n i child k a h g)
+      | inr removed ↦ absurd (removed.0 n i child k a h g)
     ]
 
     old_settled : (n : N) (k : Kind F P) (a : A) → Keeps start n k a → Keeps nodes n k a → is_instance k ≡ false
@@ -46,19 +46,19 @@ module _ {N A B F P : Type 0} (edit : Edit N A B F P) where
         → SameAt w laws.new n start nodes
     sees_to n j b there y off m k a v e h = elim (begun.to m k a h) [
       | inl stays ↦ (k, a, stays, refl)
-      | inr went ↦ let x : true ≡ false = sym (went.1 n j b there y v) ∙ off in cc
+      | inr removed ↦ let x : true ≡ false = sym (removed.1 n j b there y v) ∙ off in cc
     ]
 
     sees_from : (n : N) (j : Kind F P) (b : A) → Keeps nodes n j b → is_instance j ≡ false → queued n ≡ false
         → SameAt w laws.new n nodes start
     sees_from n j b there y off m k a v e h = elim (begun.from m k a h) [
       | inl old ↦ (k, a, old, refl)
-      | inr came ↦ let x : true ≡ false = sym (came.4 n j b there y v) ∙ off in cc
+      | inr created ↦ let x : true ≡ false = sym (created.4 n j b there y v) ∙ off in cc
     ]
 
     right : AllRight w nodes queued
     right n k a h i = elim (begun.from n k a h) [
-      | inr came ↦ inl came.2
+      | inr created ↦ inl created.2
       | inl old ↦ elim (begun.changed n k a h i) [
         | inl q ↦ inl q
         | inr same ↦ elim (either (queued n)) [
@@ -83,7 +83,7 @@ module _ {N A B F P : Type 0} (edit : Edit N A B F P) where
           | inr q ↦
               let up : NonInstance (members_of start) q.0 = elim (begun.from q.0 q.1 q.2 q.4) [
                 | inl old ↦ Keeps-NonInstance edit start q.0 q.1 q.2 old q.5
-                | inr came ↦ absurd (came.3.bare q.3 n u.0 u.1 q.6 u.2)
+                | inr created ↦ absurd (created.3.bare q.3 n u.0 u.1 q.6 u.2)
               ] in
               let size : length (edit.chain n).path ≡ length (edit.chain q.0).path + 1 = ap length q.6.path ∙ length-append (edit.chain q.0).path (q.3 ∷ []) in
               let k = kept bound q.0 (omega (arith, lt, size)) up (Keeps-NonInstance edit nodes q.0 q.1 q.2 q.4 q.5) in
@@ -96,9 +96,9 @@ module _ {N A B F P : Type 0} (edit : Edit N A B F P) where
       | inl old ↦
           let done = settled_done edit (old_world edit) start n k (edit.old.expand n a) (was_right edit laws start started n k a old (ap is_instance e)).1 in
           let x : true ≡ false = sym (ap is_waiting e) ∙ done in cc
-      | inr came ↦
+      | inr created ↦
           let u = NonInstance-Keeps edit start n (kept_new edit (members_of start) (members_of nodes) kept.0 n kept.1).0 in
-          came.3.not_there u.0 u.1 u.2 (u.3 ∙ sym (ap is_instance e)) (λ i. let x : true ≡ false = sym i ∙ ap is_instance e in cc)
+          created.3.not_there u.0 u.1 u.2 (u.3 ∙ sym (ap is_instance e)) (λ i. let x : true ≡ false = sym i ∙ ap is_instance e in cc)
     ]
 
     others : (n : N) (k : Kind F P) (a : A) → Keeps nodes n k a → is_instance k ≡ false → is_waiting k ≡ false
@@ -110,7 +110,7 @@ module _ {N A B F P : Type 0} (edit : Edit N A B F P) where
         setting = elim (begun.changed n k a h i) [ inl q ↦ inl q | inr e ↦ inr e.0 ];
         children = inr (old_settled n k a old h i);
       }
-      | inr came ↦ let x : true ≡ false = sym (ap is_waiting came.1) ∙ done in cc
+      | inr created ↦ let x : true ≡ false = sym (ap is_waiting created.1) ∙ done in cc
     ]
 
     -- where the work of an edit has begun, what holds between turns holds, with no turn taken and nothing expanded

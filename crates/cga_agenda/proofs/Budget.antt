@@ -67,7 +67,7 @@ module _ {N A B F P : Type 0} (edit : Edit N A B F P) (laws : IsEdit edit) (star
         | inl r ↦
             let now = x.now r.0 r.1 r.2 in
             (r.0, subst (λ b. IsSettled w after s r.0 (edit.new.expand s b)) now.1 now.2)
-        | inr went ↦ absurd (went.late (birth-stamp edit.mode (edit.chain s)))
+        | inr removed ↦ absurd (removed.late (birth-stamp edit.mode (edit.chain s)))
       ]
 
       -- a child that came: below s, and there

@@ -31,12 +31,12 @@ module _ {N A B F P : Type 0} (edit : Edit N A B F P) (start : List (Node N A F 
   module _ (now : LoopState N A F P) (turns known since : ℕ) (k : Knows edit start first now turns known calls since) where
     pub knows_next : (after : LoopState N A F P) (children more then : ℕ) → more ≡ children
         → Turns edit now after since then children → Knows edit start first after (turns + 1) (known + more) calls then
-    knows_next after children more then e (s, expanded, turn, (went, came, change, gone_is, come_is), tells, called) = record {
+    knows_next after children more then e (s, expanded, turn, (removed, created, change, gone_is, come_is), tells, called) = record {
       turned = s ∷ k.turned;
       worked = next_worked s expanded k.worked;
       learnt = next_known edit now.nodes s expanded k.learnt;
       working = work.next edit ready.laws start ready.started now.nodes after.nodes s now.queued after.queued k.turned k.worked expanded k.working turn;
-      recorded = subst (λ g. IsRecord edit start after.nodes (next_worked s expanded k.worked) g after.come) (sym gone_is) (subst (IsRecord edit start after.nodes (next_worked s expanded k.worked) (now.gone ++ went)) (sym come_is) (record_of.record_next edit ready.laws start ready.started now.nodes after.nodes s now.queued after.queued k.turned k.worked expanded k.working turn now.gone now.come went came k.recorded change));
+      recorded = subst (λ g. IsRecord edit start after.nodes (next_worked s expanded k.worked) g after.come) (sym gone_is) (subst (IsRecord edit start after.nodes (next_worked s expanded k.worked) (now.gone ++ removed)) (sym come_is) (record_of.record_next edit ready.laws start ready.started now.nodes after.nodes s now.queued after.queued k.turned k.worked expanded k.working turn now.gone now.come removed created k.recorded change));
       knows = budgets.known_grows edit ready.laws start ready.started now.nodes after.nodes s now.queued after.queued k.turned k.worked expanded k.learnt k.working turn k.knows;
       turns_are = omega (arith, k.turns_are);
       known_are = known_more expanded tells;

@@ -100,10 +100,10 @@ begun = record {
 
 no_change : IsChange {N = ℕ} {A = ℕ} {F = ℕ} {P = ℕ} (record { shape = 0; kind = Waiting; answers = 0 } ∷ []) (record { shape = 0; kind = Done; answers = 0 } ∷ []) [] []
 no_change = record {
-  went_once = tt;
-  came_once = tt;
-  each_went = λ d i. absurd i;
-  each_came = λ d i. absurd i;
+  removed_once = tt;
+  created_once = tt;
+  each_removed = λ d i. absurd i;
+  each_created = λ d i. absurd i;
   balance = λ test. refl;
 }
 
@@ -113,10 +113,10 @@ ready = record {
   started = started;
   begun = begun;
   gone = record {
-    went_once = tt;
-    came_once = tt;
-    each_went = λ d i. absurd i;
-    each_came = λ d i. absurd i;
+    removed_once = tt;
+    created_once = tt;
+    each_removed = λ d i. absurd i;
+    each_created = λ d i. absurd i;
     balance = λ test. refl;
   };
   come = refl;

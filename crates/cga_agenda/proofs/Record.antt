@@ -43,21 +43,21 @@ module _ {N A B F P : Type 0} (edit : Edit N A B F P) (laws : IsEdit edit) (star
         let now = NonInstance-Keeps edit nodes q both.1 in
         elim (begun.to d.shape (Instance d.solid) was.0 was.1) [
           | inl stays ↦ gone (was.0, stays)
-          | inr went ↦ elim (begun.from q now.0 now.1 now.2) [
-            | inl there ↦ went.0 q i child now.0 now.1 there now.2
-            | inr came ↦ came.3.not_there old.0 old.1 old.2 (old.3 ∙ sym now.3) (λ e. let x : true ≡ false = sym e ∙ now.3 in cc)
+          | inr removed ↦ elim (begun.from q now.0 now.1 now.2) [
+            | inl there ↦ removed.0 q i child now.0 now.1 there now.2
+            | inr created ↦ created.3.not_there old.0 old.1 old.2 (old.3 ∙ sym now.3) (λ e. let x : true ≡ false = sym e ∙ now.3 in cc)
           ]
         ]
 
     pub record_begins : IsRecord edit start nodes [] gone []
     record_begins = record {
-      gone_once = change.went_once;
+      gone_once = change.removed_once;
       come_once = tt;
       each_come = λ d i. absurd i;
-      each_gone = λ d i. let g = change.each_went d i in (g.0, (λ h. absurd (g.1 h)), λ q j child kept. absurd (no_parent d g.0 g.1 q j child kept));
+      each_gone = λ d i. let g = change.each_removed d i in (g.0, (λ h. absurd (g.1 h)), λ q j child kept. absurd (no_parent d g.0 g.1 q j child kept));
       there = λ d h. elim (begun.from d.shape (Instance d.solid) h.0 h.1) [
         | inl old ↦ inl (h.0, old)
-        | inr came ↦ let x : true ≡ false = ap is_instance came.1 in cc
+        | inr created ↦ let x : true ≡ false = ap is_instance created.1 in cc
       ];
       balance = change.balance;
     }
@@ -137,20 +137,20 @@ module _ {N A B F P : Type 0} (edit : Edit N A B F P) (laws : IsEdit edit) (star
           let x : true ≡ false = now.0 in cc
       | inr r ↦ elim r.1 [
         | inl old ↦ inl (h.0, old)
-        | inr came ↦ elim turn.was.4 [
-          | inl x ↦ inr (s, came.0.0.0, subst (Among s) (sym (told_true s worked expanded x.0)) (inl refl), came.0.0.1)
-          | inr p ↦ inl (solids_were turn.was.0 d.shape d.solid came.0.0.0 (edit.old.expand s turn.was.1) came.0.0.1 (settled p.1.done) (renewed_settled p.1) h)
+        | inr created ↦ elim turn.was.4 [
+          | inl x ↦ inr (s, created.0.0.0, subst (Among s) (sym (told_true s worked expanded x.0)) (inl refl), created.0.0.1)
+          | inr p ↦ inl (solids_were turn.was.0 d.shape d.solid created.0.0.0 (edit.old.expand s turn.was.1) created.0.0.1 (settled p.1.done) (renewed_settled p.1) h)
         ]
       ]
     ]
 
     -- the parent of an instance that went isn't kept, or was expanded
-    went_from : (d : Drawn N P) → Draws before d → (Draws after d → ⊥) → (q : N) (i : ℕ)
+    removed_from : (d : Drawn N P) → Draws before d → (Draws after d → ⊥) → (q : N) (i : ℕ)
         → IsChild (edit.chain q) i (edit.chain d.shape) → Kept edit (members_of start) (members_of after) q
         → Among q reworked
-    went_from d h gone q i child kept = elim (turn.to d.shape (Instance d.solid) h.0 h.1) [
+    removed_from d h gone q i child kept = elim (turn.to d.shape (Instance d.solid) h.0 h.1) [
       | inl r ↦ absurd (gone (r.1, subst (λ k. Keeps after d.shape k r.1) (r.4 refl) r.2))
-      | inr went ↦
+      | inr removed ↦
           let back = kept_back edit laws start started before after s queued requeued turned worked expanded good turn q kept in
           let was = NonInstance-Keeps edit before q (kept_new edit (members_of start) (members_of before) back.0 q back.1).1 in
           let now = NonInstance-Keeps edit after q (kept_new edit (members_of start) (members_of after) kept.0 q kept.1).1 in
@@ -161,7 +161,7 @@ module _ {N A B F P : Type 0} (edit : Edit N A B F P) (laws : IsEdit edit) (star
                   | inl x ↦ subst (Among q) (sym (told_true s worked expanded x.0)) (inl (sym is))
                   | inr p ↦ absurd (gone (solids_stay turn.was.0 d.shape d.solid i (edit.old.expand s turn.was.1) (subst (λ y. IsChild (edit.chain y) i (edit.chain d.shape)) is child) (settled p.1.done) (renewed_settled p.1) h))
                 ]
-            | inr apart ↦ elim (went.below q i child) [
+            | inr apart ↦ elim (removed.below q i child) [
               | inl same ↦ absurd (apart same)
               | inr lost ↦
                   let there = as_it_was edit laws start started before after s queued requeued turned worked expanded good turn q was.0 now.0 was.1 now.1 (λ e. apart (ap (place_of w) e)) was.2 now.2 (was.3 ∙ sym now.3) (λ e. let x : true ≡ false = sym e ∙ now.3 in cc) in
@@ -170,7 +170,7 @@ module _ {N A B F P : Type 0} (edit : Edit N A B F P) (laws : IsEdit edit) (star
           ]
     ]
 
-    module _ (gone come went came : List (Drawn N P)) (kept : IsRecord edit start before worked gone come) (change : IsChange before after went came) where
+    module _ (gone come removed created : List (Drawn N P)) (kept : IsRecord edit start before worked gone come) (change : IsChange before after removed created) where
       back : (q : N) → Kept edit (members_of start) (members_of after) q
           → Kept edit (members_of start) (members_of before) q
       back q h = kept_back edit laws start started before after s queued requeued turned worked expanded good turn q h
@@ -179,37 +179,37 @@ module _ {N A B F P : Type 0} (edit : Edit N A B F P) (laws : IsEdit edit) (star
           → IsMade edit reworked d.shape
       made_next d was h = elim (there_next d h) [ inl b ↦ made_on d.shape (was b) | inr m ↦ m ]
 
-      next_come : (d : Drawn N P) → Among d (come ++ came) → Draws after d × IsMade edit reworked d.shape
-      next_come d i = elim (Among-append come came d i) [
-        | inr c ↦ let g = change.each_came d c in (g.0, made_next d (λ b. absurd (g.1 b)) g.0)
+      next_come : (d : Drawn N P) → Among d (come ++ created) → Draws after d × IsMade edit reworked d.shape
+      next_come d i = elim (Among-append come created d i) [
+        | inr c ↦ let g = change.each_created d c in (g.0, made_next d (λ b. absurd (g.1 b)) g.0)
         | inl c ↦ let g = kept.each_come d c in (drawn_stays d g.0 g.1, made_on d.shape g.1)
       ]
 
       was_old : (d : Drawn N P) → Draws before d → (Draws after d → ⊥) → Draws start d
       was_old d h lost = elim (kept.there d h) [ inl old ↦ old | inr made ↦ absurd (lost (drawn_stays d h made)) ]
 
-      next_gone : (d : Drawn N P) → Among d (gone ++ went)
+      next_gone : (d : Drawn N P) → Among d (gone ++ removed)
           → Draws start d × (Draws after d → IsMade edit reworked d.shape)
           × ((q : N) (i : ℕ) → IsChild (edit.chain q) i (edit.chain d.shape)
           → Kept edit (members_of start) (members_of after) q → Among q reworked)
-      next_gone d i = elim (Among-append gone went d i) [
-        | inr c ↦ let g = change.each_went d c in (was_old d g.0 g.1, (λ h. absurd (g.1 h)), went_from d g.0 g.1)
+      next_gone d i = elim (Among-append gone removed d i) [
+        | inr c ↦ let g = change.each_removed d c in (was_old d g.0 g.1, (λ h. absurd (g.1 h)), removed_from d g.0 g.1)
         | inl c ↦
             let g = kept.each_gone d c in
             (g.0, made_next d g.1, λ q j child k. still_worked edit laws start started before after s queued requeued turned worked expanded good turn q (g.2 q j child (back q k)))
       ]
 
-      pub record_next : IsRecord edit start after reworked (gone ++ went) (come ++ came)
+      pub record_next : IsRecord edit start after reworked (gone ++ removed) (come ++ created)
       record_next = record {
-        gone_once = Once-append gone went kept.gone_once change.went_once (λ d j i. let g = change.each_went d i in g.1 (drawn_stays d g.0 ((kept.each_gone d j).1 g.0)));
-        come_once = Once-append come came kept.come_once change.came_once (λ d j i. (change.each_came d i).1 (kept.each_come d j).0);
+        gone_once = Once-append gone removed kept.gone_once change.removed_once (λ d j i. let g = change.each_removed d i in g.1 (drawn_stays d g.0 ((kept.each_gone d j).1 g.0)));
+        come_once = Once-append come created kept.come_once change.created_once (λ d j i. (change.each_created d i).1 (kept.each_come d j).0);
         each_come = next_come;
         each_gone = next_gone;
         there = λ d h. elim (there_next d h) [
           | inl b ↦ elim (kept.there d b) [ inl old ↦ inl old | inr made ↦ inr (made_on d.shape made) ]
           | inr made ↦ inr made
         ];
-        balance = λ test. omega (arith, kept.balance test, change.balance test, count_append test come came, count_append test gone went);
+        balance = λ test. omega (arith, kept.balance test, change.balance test, count_append test come created, count_append test gone removed);
       }
 
   module _ (now : Nodes) (queued : N → Bool) (turned worked : List N) (good : IsWorking edit start now queued turned worked) (gone come : List (Drawn N P)) (kept : IsRecord edit start now worked gone come) (empty : (n : N) (k : Kind F P) (a : A) → Keeps now n k a → queued n ≡ false) where

@@ -5,7 +5,7 @@ use Rattle.cga_order.specs.Stamp.{stamps_cmp}
 use Rattle.cga_order.specs.World.{World, Among, is_waiting, is_instance, place_of, stamp_of, birth_of, IsEarlier}
 use Rattle.cga_order.specs.declared.placed.Kind.{Kind}
 use Rattle.cga_order.specs.declared.placed.Kind.TheVariants.{Waiting}
-use Rattle.cga_order.specs.Agenda.{Node, members_of, Keeps, IsSettled, Came, Remains, IsTurn}
+use Rattle.cga_order.specs.Agenda.{Node, members_of, Keeps, IsSettled, Created, Remains, IsTurn}
 use Rattle.cga_order.proofs.Door.{Has-Keeps, birth-stamp, place_dec, stamp-child, still_right}
 use Rattle.std.proofs.lemmas.Bool.{cases_Bool as either}
 use Rattle.cga_order.proofs.Door as stamps
@@ -47,7 +47,7 @@ module _ {N A B F P : Type 0} (edit : Edit N A B F P) (laws : IsEdit edit) (star
   -- what was made before the stamp of s remains
   pub remains_early : (m : N) (k : Kind F P) (a : A) → Keeps before m k a → IsEarlier w (birth_of w m) (stamp_of w s)
       → Remains w after m k
-  remains_early m k a h e = elim (turn.to m k a h) [ inl r ↦ r | inr went ↦ absurd (went.late e) ]
+  remains_early m k a h e = elim (turn.to m k a h) [ inl r ↦ r | inr removed ↦ absurd (removed.late e) ]
 
   s_after : Remains w after s turn.was.0
   s_after = remains_early s turn.was.0 turn.was.1 turn.was.2 (birth-stamp edit.mode (edit.chain s))
@@ -57,7 +57,8 @@ module _ {N A B F P : Type 0} (edit : Edit N A B F P) (laws : IsEdit edit) (star
 
   -- a node is s, or stayed, or came
   pub where_from : (m : N) (k : Kind F P) (a : A) → Keeps after m k a
-      → (m ≡ s) ⊎ (((m ≡ s) → ⊥) × (Keeps before m k a ⊎ (Came w after s m k requeued × IsFresh edit before after m k)))
+      → (m ≡ s) ⊎
+      (((m ≡ s) → ⊥) × (Keeps before m k a ⊎ (Created w after s m k requeued × IsFresh edit before after m k)))
   where_from m k a h = elim (place_dec w m s) [
     | inl same ↦ inl (alone m k a h same)
     | inr apart ↦ let d : m ≡ s → ⊥ = λ e. apart (ap (place_of w) e) in inr (d, turn.from m k a h d)
@@ -73,7 +74,7 @@ module _ {N A B F P : Type 0} (edit : Edit N A B F P) (laws : IsEdit edit) (star
     | inl e ↦ (turn.was.0, turn.was.1, subst (λ x. Keeps before x turn.was.0 turn.was.1) (sym e) turn.was.2)
     | inr r ↦ elim r.1 [
       | inl old ↦ (j, b, old)
-      | inr came ↦ absurd (d (alone n k a h ((parents_same edit laws start started) n s c i came.0.0.0 child came.0.0.1)))
+      | inr created ↦ absurd (d (alone n k a h ((parents_same edit laws start started) n s c i created.0.0.0 child created.0.0.1)))
     ]
   ]
 
@@ -81,7 +82,7 @@ module _ {N A B F P : Type 0} (edit : Edit N A B F P) (laws : IsEdit edit) (star
       → (ChildrenTo edit) before after n
   to_children n k a h g d c j b i child there = elim (turn.to c j b there) [
     | inl r ↦ r
-    | inr went ↦ elim (went.below n i child) [
+    | inr removed ↦ elim (removed.below n i child) [
       | inl same ↦ absurd (d (alone n k a g same))
       | inr gone ↦ absurd (gone k a h g)
     ]
@@ -123,7 +124,7 @@ module _ {N A B F P : Type 0} (edit : Edit N A B F P) (laws : IsEdit edit) (star
       let u = (NonInstance-Keeps edit) after n is in
       elim (where_from n u.0 u.1 u.2) [
         | inl e ↦ (Keeps-NonInstance edit) before n turn.was.0 turn.was.1 (subst (λ x. Keeps before x turn.was.0 turn.was.1) (sym e) turn.was.2) turn.was.3
-        | inr r ↦ elim r.1 [ inl old ↦ (Keeps-NonInstance edit) before n u.0 u.1 old u.3 | inr came ↦ child came.0.0.0 came.0.0.1 ]
+        | inr r ↦ elim r.1 [ inl old ↦ (Keeps-NonInstance edit) before n u.0 u.1 old u.3 | inr created ↦ child created.0.0.0 created.0.0.1 ]
       ]
 
   back_at : (depth : ℕ) (n : N) → KeptAt edit (members_of start) (members_of after) depth n
@@ -163,7 +164,7 @@ module _ {N A B F P : Type 0} (edit : Edit N A B F P) (laws : IsEdit edit) (star
                 | inl old ↦
                     let is = (good.tree.distinct q.0 p.0 q.1 was.0 q.2 was.1 old was.2 same).0 in
                     subst (NonInstance (members_of after)) is ((Keeps-NonInstance edit) after q.0 q.1 q.2 q.4 q.5)
-                | inr came ↦ absurd (came.1.bare q.3 n u.0 u.1 q.6 u.2)
+                | inr created ↦ absurd (created.1.bare q.3 n u.0 u.1 q.6 u.2)
               ]
             ] in
             (h.0, is, (p.0, p.1, p.2, on_at depth p.0 p.3 there))
@@ -187,7 +188,7 @@ module _ {N A B F P : Type 0} (edit : Edit N A B F P) (laws : IsEdit edit) (star
           )
     ];
     alone = alone;
-    from = λ m k a h d. elim (turn.from m k a h d) [ inl old ↦ inl old | inr came ↦ inr came.0 ];
+    from = λ m k a h d. elim (turn.from m k a h d) [ inl old ↦ inl old | inr created ↦ inr created.0 ];
     to = turn.to;
     queued_still = turn.queued_still;
   }
@@ -288,7 +289,7 @@ module _ {N A B F P : Type 0} (edit : Edit N A B F P) (laws : IsEdit edit) (star
     | inl q ↦ let x : true ≡ false = sym (ap is_waiting e) ∙ s_done k a (subst (λ y. Keeps after y k a) q h) in cc
     | inr r ↦ elim r.1 [
       | inl old ↦ good.waiting n k a old e (kept_back n kept)
-      | inr came ↦ not_fresh n k came.1 (ap is_instance e) ((kept_new edit) (members_of start) (members_of before) kept.0 n (back_at kept.0 n kept.1)).1
+      | inr created ↦ not_fresh n k created.1 (ap is_instance e) ((kept_new edit) (members_of start) (members_of before) kept.0 n (back_at kept.0 n kept.1)).1
     ]
   ]
 
@@ -328,7 +329,7 @@ module _ {N A B F P : Type 0} (edit : Edit N A B F P) (laws : IsEdit edit) (star
         | inl x ↦ inl (still_worked n x)
         | inr o ↦ inr (old_on n k a old h r.0 i o)
       ]
-      | inr came ↦ absurd ((new_not edit) k came.1.new i done)
+      | inr created ↦ absurd ((new_not edit) k created.1.new i done)
     ]
   ]
 

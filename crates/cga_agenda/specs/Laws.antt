@@ -52,13 +52,13 @@ module _ (N A B F P : Type 0) where
   TurnsKeepRecord =
       (edit : Edit N A B F P) → IsEdit edit
       → (start before after : List (Node N A F P)) (s : N) (queued requeued : N → Bool)
-      (turned worked : List N) (expanded : Bool) (gone come went came : List (Drawn N P))
+      (turned worked : List N) (expanded : Bool) (gone come removed created : List (Drawn N P))
       → IsStart edit start
       → IsWorking edit start before queued turned worked
       → IsTurnOf edit before after s queued requeued expanded
       → IsRecord edit start before worked gone come
-      → IsChange before after went came
-      → IsRecord edit start after (next_worked s expanded worked) (gone ++ went) (come ++ came)
+      → IsChange before after removed created
+      → IsRecord edit start after (next_worked s expanded worked) (gone ++ removed) (come ++ created)
 
   -- when nothing is on the agenda it names what it must
   abbrev pub RecordIsExact : Type 0

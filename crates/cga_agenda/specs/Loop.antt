@@ -44,9 +44,9 @@ module _ {N A B F P : Type 0} (edit : Edit N A B F P) where
   -- what went and came in a turn stands behind the record so far
   abbrev pub Records : LoopState N A F P → LoopState N A F P → Type 0
   Records before after =
-      (went : List (Drawn N P)) × (came : List (Drawn N P))
-      × IsChange before.nodes after.nodes went came
-      × (after.gone ≡ before.gone ++ went) × (after.come ≡ before.come ++ came)
+      (removed : List (Drawn N P)) × (created : List (Drawn N P))
+      × IsChange before.nodes after.nodes removed created
+      × (after.gone ≡ before.gone ++ removed) × (after.come ≡ before.come ++ created)
 
   -- a turn, of which so many children came by a call of expand, with so many calls before and after it
   abbrev pub Turns : LoopState N A F P → LoopState N A F P → ℕ → ℕ → ℕ → Type 0

@@ -33,17 +33,17 @@ Draws {N} {A} {F} {P} nodes d = (a : A) × Keeps nodes d.shape (Instance d.solid
 -- with went
 abbrev pub Balances : {N F P : Type 0} → List (Placed N F P) → List (Drawn N P) → List (Placed N F P) → List (Drawn N P)
     → Type 0
-Balances {N} {F} {P} before came after went =
+Balances {N} {F} {P} before created after removed =
     (test : Drawn N P → Bool)
-    → count_by test (drawn before) + count_by test came ≡ count_by test (drawn after) + count_by test went
+    → count_by test (drawn before) + count_by test created ≡ count_by test (drawn after) + count_by test removed
 
 -- what went and what came from one list of nodes to another, each once
-pub record IsChange {N A F P : Type 0} (before after : List (Node N A F P)) (went came : List (Drawn N P)) : Type 0 where
-  pub went_once : Once went
-  pub came_once : Once came
-  pub each_went : (d : Drawn N P) → Among d went → Draws before d × (Draws after d → ⊥)
-  pub each_came : (d : Drawn N P) → Among d came → Draws after d × (Draws before d → ⊥)
-  pub balance : Balances (members_of before) came (members_of after) went
+pub record IsChange {N A F P : Type 0} (before after : List (Node N A F P)) (removed created : List (Drawn N P)) : Type 0 where
+  pub removed_once : Once removed
+  pub created_once : Once created
+  pub each_removed : (d : Drawn N P) → Among d removed → Draws before d × (Draws after d → ⊥)
+  pub each_created : (d : Drawn N P) → Among d created → Draws after d × (Draws before d → ⊥)
+  pub balance : Balances (members_of before) created (members_of after) removed
 
 module _ {N A B F P : Type 0} (edit : Edit N A B F P) where
   abbrev pub Nodes : Type 0

@@ -8,7 +8,7 @@ use Rattle.cga_order.specs.declared.placed.Placed.{Placed}
 use Rattle.cga_order.specs.declared.placed.Kind.{Kind}
 use Rattle.cga_order.specs.declared.placed.Kind.TheVariants.{Waiting, Done, Faulted, Instance}
 use Rattle.cga_order.specs.Consistent.{Stands}
-use Rattle.cga_order.specs.Agenda.{Node, members_of, Keeps, asked, IsSettled, AllRight, Came, Remains, Went, IsTree, IsNext, QueuesOnly}
+use Rattle.cga_order.specs.Agenda.{Node, members_of, Keeps, asked, IsSettled, AllRight, Created, Remains, Removed, IsTree, IsNext, QueuesOnly}
 use Rattle.cga_agenda.specs.Edit.{Edit, old_world, new_world, renewed, Kept}
 
 -- of so many P holds: as many as a list has that names just these, each once
@@ -118,9 +118,9 @@ module _ {N A B F P : Type 0} (edit : Edit N A B F P) where
         ⊎ ((expanded ≡ false) × Places before after s k a))
     pub tree : IsTree (new_world edit) after
     pub from : (m : N) (k : Kind F P) (a : A) → Keeps after m k a → m ≢ s
-        → Keeps before m k a ⊎ (Came (new_world edit) after s m k requeued × IsFresh before after m k)
+        → Keeps before m k a ⊎ (Created (new_world edit) after s m k requeued × IsFresh before after m k)
     pub to : (m : N) (k : Kind F P) (a : A) → Keeps before m k a
-        → Remains (new_world edit) after m k ⊎ Went (new_world edit) s m before after requeued
+        → Remains (new_world edit) after m k ⊎ Removed (new_world edit) s m before after requeued
     pub queued_still : (m : N) (k : Kind F P) (a : A) → Keeps after m k a → is_instance k ≡ false → m ≢ s
         → queued m ≡ true → requeued m ≡ true
     pub queues_only : QueuesOnly (new_world edit) before after s queued requeued

@@ -8,7 +8,7 @@ use Rattle.cga_asset.specs.Lines.{added, fits, most_faces, with_face}
 use Rattle.cga_asset.specs.Pending.{pending, unless_faulty}
 use Rattle.cga_asset.specs.declared.fault.AssetFault.{AssetFault}
 use Rattle.cga_asset.specs.declared.fault.AssetFault.TheVariants.{BadFace, TooManyFaces}
-use Rattle.cga_asset.specs.declared.said.Said.TheVariants.{Face}
+use Rattle.cga_asset.specs.declared.asset_line.AssetLine.TheVariants.{Face}
 
 abbrev Checked : Type 0
 Checked = Result (Unit {0}) AssetFault

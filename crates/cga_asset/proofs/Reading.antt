@@ -12,7 +12,7 @@ use Rattle.cga_asset.specs.Reader.{StandsFor, outcome}
 use Rattle.cga_asset.specs.declared.fault.AssetFault.{AssetFault}
 use Rattle.cga_asset.specs.declared.fault.AssetFault.TheVariants.{LineTooLong}
 use Rattle.cga_asset.specs.declared.reader.AssetReader.{AssetReader}
-use Rattle.cga_asset.specs.declared.said.Said.{Said}
+use Rattle.cga_asset.specs.declared.asset_line.AssetLine.{AssetLine}
 
 abbrev Made : Type 0
 Made = Result SolidMesh AssetFault
@@ -95,7 +95,7 @@ later_line (Ok u) None m total n l f is = absurd (cc)
 later_line (Ok u) (Some g) m total n l f is = refl
 
 -- no line was faulty so far
-said_line : (p : Checked) (kept : Option AssetFault) (m : SolidMesh) (total n : ℕ) (l : Line) (s : Said)
+said_line : (p : Checked) (kept : Option AssetFault) (m : SolidMesh) (total n : ℕ) (l : Line) (s : AssetLine)
     → is_long l ≡ false → kept ≡ None → s ≡ said_of (length m.vertices) (words_of l.bytes)
     → and_then (and_then p (λ u. unless_faulty kept m)) (λ a. added total n a s) ≡ and_then
     (and_then p (λ u. unless_faulty kept m)) (λ a. with_line total n a l)
@@ -146,7 +146,7 @@ later_read r s lines l f long h number vertices mesh face_lines fault is =
     (λ total. made_alike total s.mesh r.mesh s.face_lines r.face_lines s.fault r.fault mesh face_lines fault
     ∙ later_line (pending total r.mesh.faces r.face_lines) r.fault r.mesh total s.lines l f is)
 
-pub said_read : (r s : AssetReader) (lines : List Line) (l : Line) (said : Said) → is_long l ≡ false
+pub said_read : (r s : AssetReader) (lines : List Line) (l : Line) (said : AssetLine) → is_long l ≡ false
     → StandsFor r lines → s.lines ≡ counted (r.lines + 1)
     → s.vertex_lines ≡ next_count (begins_vertex (words_of l.bytes)) r.vertex_lines → r.fault ≡ None
     → said ≡ said_of (length r.mesh.vertices) (words_of l.bytes) → length s.mesh.faces ≡ length s.face_lines

@@ -9,8 +9,8 @@ use Rattle.cga_solid.specs.declared.solid_mesh.SolidMesh.{SolidMesh}
 use Rattle.cga_asset.specs.Words.{coordinate_of, corner_of, most_lines, words_of}
 use Rattle.cga_asset.specs.declared.fault.AssetFault.{AssetFault}
 use Rattle.cga_asset.specs.declared.fault.AssetFault.TheVariants.{LineTooLong, UnknownLine, BadVertex, BadFace, TooManyVertices, TooManyFaces, NoFace}
-use Rattle.cga_asset.specs.declared.said.Said.{Said}
-use Rattle.cga_asset.specs.declared.said.Said.TheVariants.{Passed, Vertex, Face, Unknown}
+use Rattle.cga_asset.specs.declared.asset_line.AssetLine.{AssetLine}
+use Rattle.cga_asset.specs.declared.asset_line.AssetLine.TheVariants.{Passed, Vertex, Face, Unknown}
 
 -- ---- one line
 
@@ -55,7 +55,7 @@ abbrev pub face_of : ℕ → List (List ℕ) → Option (List ℕ)
 face_of before ws = if nat_le 3 (length ws) && nat_le (length ws) 64 then corners_of before ws else None
 
 -- what a line says by its first word, where so many vertices stand before it
-unfoldable pub said_of : ℕ → List (List ℕ) → Said
+unfoldable pub said_of : ℕ → List (List ℕ) → AssetLine
 said_of before [] = Passed
 said_of before (w ∷ ws) =
     if is_passed w then Passed
@@ -98,7 +98,7 @@ abbrev pub fits : ℕ → List ℕ → Bool
 fits total corners = list_all (λ n. nat_le n total) corners
 
 -- line n is added to what the lines before it gave
-abbrev pub added : ℕ → ℕ → SolidMesh → Said → Result SolidMesh AssetFault
+abbrev pub added : ℕ → ℕ → SolidMesh → AssetLine → Result SolidMesh AssetFault
 added total n a Passed = Ok a
 added total n a Unknown = Err (UnknownLine n)
 added total n a (Vertex None) = Err (BadVertex n)

@@ -7,12 +7,12 @@
 #![tactic(auto)]
 
 mod asset;
+mod asset_line;
 mod dressed;
 mod fault;
 mod fitting;
 mod numbers;
 mod reader;
-mod said;
 mod span;
 mod too_large;
 mod wardrobe;

@@ -5,8 +5,8 @@ ghost use Rattle.cga_asset.specs.Lines.{counted, fits, most_faces, unless_facele
 ghost use Rattle.cga_asset.specs.Pending.{pending, unless_faulty};
 
 use crate::asset::Asset;
+use crate::asset_line::{AssetLine, begins_vertex, said_by};
 use crate::fault::AssetFault;
-use crate::said::{Said, begins_vertex, said_by};
 use crate::words::words;
 use cga_form::limits::LINE_LIMIT;
 use cga_fraction::{List, NoMemory};
@@ -81,7 +81,7 @@ impl AssetReader {
     }
 
     // Adds what the last line says, where none before it is faulty.
-    fn add(&mut self, said: Said) -> Result<(), NoMemory>
+    fn add(&mut self, said: AssetLine) -> Result<(), NoMemory>
         requires { self.old.fault ≡ None }
         ensures gives { length self.old.mesh.faces ≡ length self.old.face_lines → OnOk result ((total : ℕ) → outcome self.new total ≡ and_then (outcome self.old total) (λ a. added total self.old.lines a said)) }
         ensures paired { length self.old.mesh.faces ≡ length self.old.face_lines → OnOk result (length self.new.mesh.faces ≡ length self.new.face_lines) }
@@ -90,18 +90,18 @@ impl AssetReader {
     {
         let line = self.lines;
         match said {
-            Said::Passed => Ok(()),
-            Said::Unknown => self.refuse(AssetFault::UnknownLine(line)),
-            Said::Vertex(None) => self.refuse(AssetFault::BadVertex(line)),
-            Said::Vertex(Some(vertex)) => {
+            AssetLine::Passed => Ok(()),
+            AssetLine::Unknown => self.refuse(AssetFault::UnknownLine(line)),
+            AssetLine::Vertex(None) => self.refuse(AssetFault::BadVertex(line)),
+            AssetLine::Vertex(Some(vertex)) => {
                 if self.mesh.vertices.len() >= MOST_VERTICES {
                     return self.refuse(AssetFault::TooManyVertices(line));
                 }
                 self.mesh.vertices.push(vertex)?;
                 Ok(())
             }
-            Said::Face(None) => self.refuse(AssetFault::BadFace(line)),
-            Said::Face(Some(corners)) => {
+            AssetLine::Face(None) => self.refuse(AssetFault::BadFace(line)),
+            AssetLine::Face(Some(corners)) => {
                 self.fault = faces_fault(self.mesh.faces.len(), line);
                 self.mesh.faces.push(corners)?;
                 self.face_lines.push(line)?;

@@ -1,6 +1,6 @@
 ghost use Rattle.std.specs.Prelude.{◌≡◌};
 
-use crate::lines::{Lines, add_all, take_all};
+use crate::lines::{BillLines, add_all, take_all};
 use crate::text::push_bill;
 use cga_fraction::{List, NoMemory, Text};
 use cga_shape::Changes;
@@ -11,7 +11,7 @@ use std::marker::Model;
 /// What is drawn, summed up by symbol.
 #[derive(Drop)]
 pub struct Bill {
-    lines: Lines,
+    lines: BillLines,
     alloc: Global,
 }
 

@@ -14,9 +14,9 @@ use cga_shape::Drawn;
 use cga_word::Name;
 use std::collections::BTreeMap;
 
-pub type Lines = BTreeMap<Name, Sums>;
+pub type BillLines = BTreeMap<Name, Sums>;
 
-fn add(lines: &mut Lines, drawn: &Drawn) -> Result<(), NoMemory>
+fn add(lines: &mut BillLines, drawn: &Drawn) -> Result<(), NoMemory>
     requires { HasRoom (sums_at lines.old.entries drawn.now.symbol) (sums_of (drawn.now ∷ [])) }
     ensures updates { OnOk result (Updates (slice_cmp nat_cmp) lines.old lines.new drawn.now.symbol (Some (plus_sums (sums_at lines.old.entries drawn.now.symbol) (sums_of (drawn.now ∷ []))))) }
     ensures ordered { IsOrdered (slice_cmp nat_cmp) lines.new }
@@ -35,7 +35,7 @@ fn add(lines: &mut Lines, drawn: &Drawn) -> Result<(), NoMemory>
 }
 
 // Takes no memory.
-fn take(lines: &mut Lines, drawn: &Drawn)
+fn take(lines: &mut BillLines, drawn: &Drawn)
     requires { Holds (sums_at lines.old.entries drawn.now.symbol) (sums_of (drawn.now ∷ [])) }
     ensures updates { Updates (slice_cmp nat_cmp) lines.old lines.new drawn.now.symbol (left (minus_sums (sums_at lines.old.entries drawn.now.symbol) (sums_of (drawn.now ∷ [])))) }
     ensures ordered { IsOrdered (slice_cmp nat_cmp) lines.new }
@@ -52,7 +52,7 @@ fn take(lines: &mut Lines, drawn: &Drawn)
 }
 
 /// Adds each of these.
-pub fn add_all(lines: &mut Lines, come: &[Drawn]) -> Result<(), NoMemory>
+pub fn add_all(lines: &mut BillLines, come: &[Drawn]) -> Result<(), NoMemory>
     requires { (list : List Drawn) × IsBill lines.old.entries list × (length list + length come.now < 2 ^ 32) }
     ensures { (list : List Drawn) → IsBill lines.old.entries list → OnOk result (IsBill lines.new.entries (list ++ come.now)) }
 {
@@ -63,7 +63,7 @@ pub fn add_all(lines: &mut Lines, come: &[Drawn]) -> Result<(), NoMemory>
 }
 
 /// Takes each of these away. Takes no memory.
-pub fn take_all(lines: &mut Lines, gone: &[Drawn])
+pub fn take_all(lines: &mut BillLines, gone: &[Drawn])
     requires { (rest : List Drawn) × IsBill lines.old.entries (rest ++ gone.now) }
     ensures { (rest : List Drawn) → IsBill lines.old.entries (rest ++ gone.now) → IsBill lines.new.entries rest }
 {

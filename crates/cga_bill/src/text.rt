@@ -2,7 +2,7 @@ ghost use Rattle.std.specs.Prelude.{◌≡◌, ◌++◌, ◌≤◌, ◌<◌, ◌
 ghost use Rattle.cga_fraction.specs.Texts.{padded, pointed};
 ghost use Rattle.cga_bill.specs.Texts.{bill_text_of, line_text};
 
-use crate::lines::Lines;
+use crate::lines::BillLines;
 use crate::sums::Sums;
 use cga_fraction::{NoMemory, Text};
 use cga_word::Name;
@@ -60,7 +60,7 @@ fn push_line(text: &mut Text, symbol: &Name, sums: &Sums) -> Result<(), NoMemory
     text.push_byte(b'\n')
 }
 
-fn push_lines(text: &mut Text, lines: &Lines) -> Result<(), NoMemory>
+fn push_lines(text: &mut Text, lines: &BillLines) -> Result<(), NoMemory>
     ensures { OnOk result (text.new ≡ text.old ++ flat_map line_text lines.now.entries) }
 {
     for (symbol, sums) in lines {
@@ -70,7 +70,7 @@ fn push_lines(text: &mut Text, lines: &Lines) -> Result<(), NoMemory>
 }
 
 #[tactic(auto, unfolding(crate::specs::Texts::bill_text_of))]
-pub fn push_bill(text: &mut Text, lines: &Lines) -> Result<(), NoMemory>
+pub fn push_bill(text: &mut Text, lines: &BillLines) -> Result<(), NoMemory>
     ensures { OnOk result (text.new ≡ text.old ++ bill_text_of lines.now.entries) }
 {
     text.push(b"# bill ")?;

@@ -19,7 +19,7 @@ use Rattle.cga_rule.specs.declared.rule.Rule.{Rule}
 use Rattle.cga_word.specs.declared.answers.Answers.{Answers}
 use Rattle.cga_expr.specs.Names.{Known}
 use Rattle.cga_expand.specs.declared.limits.TheConstants.{MOST_DEPTH, MOST_PARTS}
-use Rattle.cga_expand.specs.declared.state.State.{State}
+use Rattle.cga_expand.specs.declared.progress.Progress.{Progress}
 use Rattle.cga_expand.specs.Collect.{collected}
 use Rattle.cga_expand.specs.Rules.{expansion, chosen, successor, picked, drawn_number, known_to, start}
 use Rattle.cga_expand.specs.Scopes.{moved_by, resized_by, turned_by, subdivided, repeated, taken_apart, value_in}
@@ -37,8 +37,8 @@ abbrev pub AllDraw : List Emitted → Type 0
 AllDraw = AllByRecursion CanDraw
 
 -- what a part of a successor keeps of the children so far
-abbrev pub Keeps : {K : Type 0} → (K → State → Result State ShapeFault) → Type 0
-Keeps {K} w = (k : K) (s t : State) → w k s ≡ Ok t → AllDraw s.children → AllDraw t.children
+abbrev pub Keeps : {K : Type 0} → (K → Progress → Result Progress ShapeFault) → Type 0
+Keeps {K} w = (k : K) (s t : Progress) → w k s ≡ Ok t → AllDraw s.children → AllDraw t.children
 
 abbrev pub AllKeep : List Walk → Type 0
 AllKeep = AllByRecursion Keeps
@@ -48,21 +48,21 @@ one_more [] e h k = (k, tt)
 one_more (x ∷ es) e h k = (h.0, one_more es e h.1 k)
 
 -- the children of a state that was reached
-abbrev children_in : State → Result State ShapeFault → List Emitted
+abbrev children_in : Progress → Result Progress ShapeFault → List Emitted
 children_in s (Ok t) = t.children
 children_in s (Err e) = s.children
 
-same_children : (s m t : State) → AllDraw m.children → ◌≡◌ {A = Result State ShapeFault} (Ok m) (Ok t)
+same_children : (s m t : Progress) → AllDraw m.children → ◌≡◌ {A = Result Progress ShapeFault} (Ok m) (Ok t)
     → AllDraw t.children
-same_children s m t all e = let c : m.children ≡ t.children = ap (λ (r : Result State ShapeFault). children_in s r) e in subst AllDraw c all
+same_children s m t all e = let c : m.children ≡ t.children = ap (λ (r : Result Progress ShapeFault). children_in s r) e in subst AllDraw c all
 
 emit_keeps : (made : ℕ → Emitted) → ((seed : ℕ) → CanDraw (made seed)) → Keeps (emit made)
 emit_keeps made can k s t h all =
     let (i, at, e) = and_then_ok (next_index s) _ t h in
-    let c = ap (λ (r : Result State ShapeFault). children_in s r) e in
+    let c = ap (λ (r : Result Progress ShapeFault). children_in s r) e in
     subst AllDraw c (one_more s.children _ all (can _))
 
-rescope_keeps : {K : Type 0} (f : K → State → Result Scope ShapeFault) → Keeps (λ k s. rescoped (f k s) s)
+rescope_keeps : {K : Type 0} (f : K → Progress → Result Scope ShapeFault) → Keeps (λ k s. rescoped (f k s) s)
 rescope_keeps f k s t h all = let (scope, at, e) = and_then_ok (f k s) _ t h in same_children s (with_scope scope s) t all e
 
 in_turn_keeps : (ws : List Walk) → AllKeep ws → Keeps (in_turn ws)
@@ -83,7 +83,7 @@ over_bodies_keeps (w ∷ ws) a (p ∷ ps) k s t h all =
 restored_keeps : (w : Walk) → Keeps w → Keeps (restored w)
 restored_keeps w a k s t h all = let (m, at, e) = and_then_ok (w k s) _ t h in same_children s (with_scope s.scope m) t (a k s m at all) e
 
-count_keeps : (n : ℕ) (s t : State) → count_parts n s ≡ Ok t → AllDraw s.children → AllDraw t.children
+count_keeps : (n : ℕ) (s t : Progress) → count_parts n s ≡ Ok t → AllDraw s.children → AllDraw t.children
 count_keeps n s t h all = elim (decide (nat_lt MOST_PARTS (s.parts + n))) [
   | inl y ↦ (let k = rw y at h in absurd (cc))
   | inr f ↦ (let k = rw f at h in same_children s (record s { parts = s.parts + n }) t all k)

@@ -4,15 +4,15 @@ use Rattle.std.specs.List.{list_any}
 use Rattle.cga_check.specs.Uses.{same_name}
 use Rattle.cga_depend.specs.Pairs.{DependentsView, nodes_in}
 use Rattle.cga_depend.specs.declared.log.Pairing.{Pairing}
-use Rattle.cga_depend.specs.declared.log.Pairing.TheVariants.{Came, Went}
+use Rattle.cga_depend.specs.declared.log.Pairing.TheVariants.{Created, Removed}
 
 abbrev pub is_pair : List ℕ → ℕ → List ℕ → ℕ → Bool
 is_pair symbol id s c = same_name symbol s && nat_eq id c
 
 -- whether node c is one of symbol s after an entry, where it was or wasn't before
 abbrev pub noted : Pairing → List ℕ → ℕ → Bool → Bool
-noted (Came symbol id) s c was = if is_pair symbol id s c then true else was
-noted (Went symbol id) s c was = if is_pair symbol id s c then false else was
+noted (Created symbol id) s c was = if is_pair symbol id s c then true else was
+noted (Removed symbol id) s c was = if is_pair symbol id s c then false else was
 
 -- the same after all entries
 unfoldable pub noted_all : List Pairing → List ℕ → ℕ → Bool → Bool

@@ -10,8 +10,8 @@ use cga_word::Name;
 /// A node came, or went: its symbol and its id.
 #[derive(Clone, Copy)]
 pub enum Pairing {
-    Came(Name, NodeId),
-    Went(Name, NodeId),
+    Created(Name, NodeId),
+    Removed(Name, NodeId),
 }
 
 /// Makes the nodes of each symbol what a log says. Takes memory.
@@ -28,8 +28,8 @@ fn apply_one(dependents: &mut Dependents, entry: Pairing) -> Result<(), NoMemory
     ensures noted { OnOk result ((s : List ℕ) (c : ℕ) → lists dependents.new s c ≡ noted entry s c (lists dependents.old s c)) }
 {
     match entry {
-        Pairing::Came(symbol, node) => add(dependents, symbol, node),
-        Pairing::Went(symbol, node) => {
+        Pairing::Created(symbol, node) => add(dependents, symbol, node),
+        Pairing::Removed(symbol, node) => {
             take_out(dependents, symbol, node);
             Ok(())
         }

@@ -53,8 +53,8 @@ module _ {N A F P : Type 0} (derivation : Derivation N A F P) where
 
       apart-next : SitesApart derivation C → SitesApart derivation D
       apart-next apart i j m n e f same =
-          elim (steps.came_from (world_of derivation) (world derivation laws) C D s good step i m e) [
-            | inl a ↦ elim (steps.came_from (world_of derivation) (world derivation laws) C D s good step j n f) [
+          elim (steps.created_from (world_of derivation) (world derivation laws) C D s good step i m e) [
+            | inl a ↦ elim (steps.created_from (world_of derivation) (world derivation laws) C D s good step j n f) [
               | inl b ↦
                   let p : place_of derivation a.1.0.shape.shape ≡ place_of derivation m.shape.shape = ap (λ (x : Site N). place_of derivation x.shape) a.1.2 in
                   let q : place_of derivation b.1.0.shape.shape ≡ place_of derivation n.shape.shape = ap (λ (x : Site N). place_of derivation x.shape) b.1.2 in
@@ -62,7 +62,7 @@ module _ {N A F P : Type 0} (derivation : Derivation N A F P) where
               | inr b ↦
                   absurd (no_child a.1.0.shape a.1.0.kind n.shape b.0 (child-Has C s i a.1.0 a.1.1) b.2.lot b.2.path (sym same ∙ sym (ap (λ (x : Site N). place_of derivation x.shape) a.1.2)))
             ]
-            | inr a ↦ elim (steps.came_from (world_of derivation) (world derivation laws) C D s good step j n f) [
+            | inr a ↦ elim (steps.created_from (world_of derivation) (world derivation laws) C D s good step j n f) [
               | inl b ↦
                   absurd (no_child b.1.0.shape b.1.0.kind m.shape a.0 (child-Has C s j b.1.0 b.1.1) a.2.lot a.2.path (same ∙ sym (ap (λ (x : Site N). place_of derivation x.shape) b.1.2)))
               | inr b ↦

@@ -105,15 +105,15 @@ abbrev box_in : Member → Box
 box_in m = box_of m.shape.scope
 
 -- a member that came, with its streak
-pub boxed_came : (list more : List Member) (streaks lent many : List Streak) (m : Member) (own : Box)
+pub boxed_created : (list more : List Member) (streaks lent many : List Streak) (m : Member) (own : Box)
     (streak : Streak)
     → IsBoxed list streaks → lent ≡ streaks → more ≡ list ++ m ∷ [] → many ≡ streaks ++ streak ∷ []
     → own ≡ box_of m.shape.scope
     → ((boxes : List Box) → AreStreaks boxes lent → IsStreak (boxes ++ own ∷ []) (length boxes) streak)
     → IsBoxed more many
-boxed_came list more streaks lent many m own streak are same came at is made =
+boxed_created list more streaks lent many m own streak are same created at is made =
     let next = made (map box_in list) (subst (AreStreaks (map box_in list)) (sym same) are) in
-    let whole : map box_in list ++ own ∷ [] ≡ map box_in more = ap (λ b. map box_in list ++ b ∷ []) is ∙ (sym (map-append box_in list (m ∷ [])) ∙ ap (map box_in) (sym came)) in
+    let whole : map box_in list ++ own ∷ [] ≡ map box_in more = ap (λ b. map box_in list ++ b ∷ []) is ∙ (sym (map-append box_in list (m ∷ [])) ∙ ap (map box_in) (sym created)) in
     subst (AreStreaks (map box_in more)) (sym at)
     (subst (λ l. AreStreaks l (streaks ++ streak ∷ [])) whole (streaks_push (map box_in list) streaks own streak are next))
 

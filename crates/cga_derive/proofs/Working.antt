@@ -88,8 +88,8 @@ module _ (sources : Sources) (differ : NamesDiffer sources.lots) where
         → IsAfter sources (suc n) (slice_set list place (record { shape = x.shape; kind = Faulted f })) es
     working-fault x y answers r f here is asks gives fault =
         let same : there.0 ≡ x = sym (here ∙ read list place there.0 x there.1) in
-        let went = turns.turn-fault (derivation_of sources) (sources_are_derivations sources differ) (λ k. k.mode) chain_of_key key_cmp (agrees sources.mode) n key place list es turn there.0 there.1 f (result y answers r is asks gives ∙ ap (placed_by there.0.shape) fault) in
-        subst (λ (m : Member). IsAfter sources (suc n) (slice_set list place (record { shape = m.shape; kind = Faulted f })) es) same went
+        let removed = turns.turn-fault (derivation_of sources) (sources_are_derivations sources differ) (λ k. k.mode) chain_of_key key_cmp (agrees sources.mode) n key place list es turn there.0 there.1 f (result y answers r is asks gives ∙ ap (placed_by there.0.shape) fault) in
+        subst (λ (m : Member). IsAfter sources (suc n) (slice_set list place (record { shape = m.shape; kind = Faulted f })) es) same removed
 
     pub working-done : (x y : Member) (answers : Answers) (r : Result (List Emitted) ShapeFault)
         (emitted : List Emitted) (new_list : List Member) (new_es : List (StampKey × ℕ))
@@ -98,17 +98,17 @@ module _ (sources : Sources) (differ : NamesDiffer sources.lots) where
         → new_list ≡ slice_set list place (record { shape = x.shape; kind = Done }) ++ placed_from key.lot key.path y.shape.symbol 0 emitted
         → KeepsKeys sources key (sited_children key y.shape.symbol 0 emitted) (slice_set list place (record { shape = x.shape; kind = Done })) es new_es
         → IsAfter sources (suc n) new_list new_es
-    working-done x y answers r emitted new_list new_es here is asks gives done came keeps =
+    working-done x y answers r emitted new_list new_es here is asks gives done created keeps =
         let same_x : x ≡ there.0 = here ∙ read list place there.0 x there.1 in
         let same_y : y ≡ there.0 = is ∙ read list place there.0 y there.1 in
         let cs = placed_from there.0.shape.lot there.0.shape.path there.0.shape.symbol 0 emitted in
         let children : placed_from key.lot key.path y.shape.symbol 0 emitted ≡ cs = λ i. placed_from (there.3 i) (there.4 i) (same_y i).shape.symbol 0 emitted in
-        let went = turns.turn-done (derivation_of sources) (sources_are_derivations sources differ) (λ k. k.mode) chain_of_key key_cmp (agrees sources.mode) n key place list es turn there.0 there.1 cs (result y answers r is asks gives ∙ ap (placed_by there.0.shape) done) in
+        let removed = turns.turn-done (derivation_of sources) (sources_are_derivations sources differ) (λ k. k.mode) chain_of_key key_cmp (agrees sources.mode) n key place list es turn there.0 there.1 cs (result y answers r is asks gives ∙ ap (placed_by there.0.shape) done) in
         let mode = turns.mode_is (derivation_of sources) (sources_are_derivations sources differ) (λ k. k.mode) chain_of_key key_cmp (agrees sources.mode) n key place list es turn in
-        let size = went.1 ∙ sym (length-set list place (record { shape = x.shape; kind = Done })) in
+        let size = removed.1 ∙ sym (length-set list place (record { shape = x.shape; kind = Done })) in
         let kept = subst (λ l. (C : Sites) → key.mode ≡ sources.mode → length C ≡ length (slice_set list place (record { shape = x.shape; kind = Done })) → SitesApart (derivation_of sources) (C ++ map (sited key.priorities) l) → HasKeys sources C es → HasKeys sources (C ++ map (sited key.priorities) l) new_es) children keeps in
-        let ended = went.4 new_es (kept went.0 mode size went.3 went.2) in
-        subst (λ l. IsAfter sources (suc n) l new_es) (sym (came ∙ (λ i. slice_set list place (record { shape = (same_x i).shape; kind = Done }) ++ children i))) ended
+        let ended = removed.4 new_es (kept removed.0 mode size removed.3 removed.2) in
+        subst (λ l. IsAfter sources (suc n) l new_es) (sym (created ∙ (λ i. slice_set list place (record { shape = (same_x i).shape; kind = Done }) ++ children i))) ended
 
   -- a derivation stands in order
   pub stands : (budget : ℕ) (list : List Member) → derive (derivation_of sources) budget ≡ Some list

@@ -50,6 +50,6 @@ sited_children key own i emitted =
 
 -- the keys go along when these members come behind the list
 abbrev pub KeepsKeys : Sources → StampKey → Sites → List Member → List (StampKey × ℕ) → List (StampKey × ℕ) → Type 0
-KeepsKeys sources parent came old_list old new =
+KeepsKeys sources parent created old_list old new =
     (C : Sites) → parent.mode ≡ sources.mode → length C ≡ length old_list
-    → SitesApart (derivation_of sources) (C ++ came) → HasKeys sources C old → HasKeys sources (C ++ came) new
+    → SitesApart (derivation_of sources) (C ++ created) → HasKeys sources C old → HasKeys sources (C ++ created) new

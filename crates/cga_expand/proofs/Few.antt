@@ -26,34 +26,34 @@ use Rattle.cga_shape.specs.declared.shape_fault.ShapeFault.{ShapeFault}
 use Rattle.cga_shape.specs.declared.shape_fault.ShapeFault.TheVariants.{TooManyChildren, TooManyParts, TooDeep}
 use Rattle.cga_shape.specs.declared.emitted.Emitted.TheVariants as emitted
 use Rattle.cga_expand.specs.declared.limits.TheConstants.{MOST_CHILDREN, MOST_PARTS, MOST_DEPTH}
-use Rattle.cga_expand.specs.declared.state.State.{State}
+use Rattle.cga_expand.specs.declared.progress.Progress.{Progress}
 use Rattle.cga_expand.specs.Walk.{Walk, with_scope, emit, drawn, grown, count_parts, rescoped, in_turn, over_body, over_bodies, restored, over, item_step, body_step, item_walk, body_walk}
 use Rattle.cga_expand.specs.Rules.{expansion, successor, chosen, known_to, picked, drawn_number, start}
 use Rattle.cga_expand.specs.Expand.{expand_of, rules_by_id}
 
-abbrev IsFew : State → Type 0
+abbrev IsFew : Progress → Type 0
 IsFew s = length s.children ≤ MOST_CHILDREN
 
-abbrev Few : Result State ShapeFault → Type 0
+abbrev Few : Result Progress ShapeFault → Type 0
 Few (Ok s) = IsFew s
 Few (Err fault) = Unit {0}
 
 abbrev Keeps : Walk → Type 0
-Keeps w = (k : Known) (s : State) → IsFew s → Few (w k s)
+Keeps w = (k : Known) (s : Progress) → IsFew s → Few (w k s)
 
-then_few : (r : Result State ShapeFault) (f : State → Result State ShapeFault) → Few r
-    → ((s : State) → IsFew s → Few (f s)) → Few (and_then r f)
+then_few : (r : Result Progress ShapeFault) (f : Progress → Result Progress ShapeFault) → Few r
+    → ((s : Progress) → IsFew s → Few (f s)) → Few (and_then r f)
 then_few (Ok s) f h g = g s h
 then_few (Err fault) f h g = tt
 
-after_few : {A : Type 0} (r : Result A ShapeFault) (f : A → Result State ShapeFault) → ((x : A) → Few (f x))
+after_few : {A : Type 0} (r : Result A ShapeFault) (f : A → Result Progress ShapeFault) → ((x : A) → Few (f x))
     → Few (and_then r f)
 after_few (Ok x) f g = g x
 after_few (Err fault) f g = tt
 
 -- ---- what emits
 
-emit_step : (made : ℕ → Emitted) (k : Known) (s : State) (b : Bool) → nat_le MOST_CHILDREN (length s.children) ≡ b
+emit_step : (made : ℕ → Emitted) (k : Known) (s : Progress) (b : Bool) → nat_le MOST_CHILDREN (length s.children) ≡ b
     → Few (and_then (if b then Err TooManyChildren else Ok (length s.children))
     (λ i. Ok (record s { children = s.children ++ made (child_seed_of k.seed i) ∷ [] })))
 emit_step made k s true e = tt
@@ -70,7 +70,7 @@ drawn_keeps p k s h = after_few (faulted of_solid (check_solid_of p s.scope)) (�
 grown_keeps : (symbol : List ℕ) (args : List Expr) → Keeps (grown symbol args)
 grown_keeps symbol args k s h = after_few (collected (value_in k s.scope) args) (λ xs. emit (emitted.Child symbol xs s.scope) k s) (λ xs. emit_keeps (emitted.Child symbol xs s.scope) k s h)
 
-rescoped_few : (made : Result Scope ShapeFault) (s : State) → IsFew s → Few (rescoped made s)
+rescoped_few : (made : Result Scope ShapeFault) (s : Progress) → IsFew s → Few (rescoped made s)
 rescoped_few (Ok scope) s h = h
 rescoped_few (Err fault) s h = tt
 
@@ -97,12 +97,12 @@ bodies_keep (w ∷ ws) (p ∷ ps) all k s h = then_few (w k (with_scope p s)) (o
 restored_keeps : (w : Walk) → Keeps w → Keeps (restored w)
 restored_keeps w each k s h = then_few (w k s) (λ t. Ok (with_scope s.scope t)) (each k s h) (λ t few. few)
 
-count_step : (n : ℕ) (s : State) (b : Bool) → IsFew s
+count_step : (n : ℕ) (s : Progress) (b : Bool) → IsFew s
     → Few (if b then Err TooManyParts else Ok (record s { parts = s.parts + n }))
 count_step n s true h = tt
 count_step n s false h = h
 
-count_few : (n : ℕ) (s : State) → IsFew s → Few (count_parts n s)
+count_few : (n : ℕ) (s : Progress) → IsFew s → Few (count_parts n s)
 count_few n s h = count_step n s (nat_lt MOST_PARTS (s.parts + n)) h
 
 over_keeps : (made : Result (List Scope) ShapeFault) (each : List Scope → Walk)
@@ -170,7 +170,7 @@ all_keep : (items : List Item) → AllKeep (map item_walk items)
 all_keep [] = tt
 all_keep (i ∷ items) = (item_keeps i, all_keep items)
 
-children_few : (r : Result State ShapeFault) → Few r → FewChildren (and_then r (λ s. Ok s.children))
+children_few : (r : Result Progress ShapeFault) → Few r → FewChildren (and_then r (λ s. Ok s.children))
 children_few (Ok s) h = h
 children_few (Err fault) h = tt
 

@@ -14,17 +14,18 @@ use Rattle.cga_rule.specs.declared.item.Item.TheFolds.{fold-roll-Item, fold_out-
 use Rattle.cga_rule.specs.declared.item.Item.TheOpen as layer
 use Rattle.cga_shape.specs.declared.shape_fault.ShapeFault.{ShapeFault}
 use Rattle.cga_expr.specs.Names.{Known}
-use Rattle.cga_expand.specs.declared.state.State.{State}
+use Rattle.cga_expand.specs.declared.progress.Progress.{Progress}
 use Rattle.cga_expand.specs.Stops.{Gives}
 use Rattle.cga_expand.specs.Walk.{Walk, item_step, body_step, item_walk, body_walk, in_turn}
 
-pub at_state : {m n : Walk} → m ≡ n → (k : Known) (s : State) → m k s ≡ n k s
+pub at_state : {m n : Walk} → m ≡ n → (k : Known) (s : Progress) → m k s ≡ n k s
 at_state e k s = ap (λ (m : Walk). m k s) e
 
-pub at_item : {i j : Item} → i ≡ j → (k : Known) (s : State) → item_walk i k s ≡ item_walk j k s
+pub at_item : {i j : Item} → i ≡ j → (k : Known) (s : Progress) → item_walk i k s ≡ item_walk j k s
 at_item e k s = ap (λ i. item_walk i k s) e
 
-pub gives_at : (r r' : Result State ShapeFault) (new : State) (result : Result (Unit {0}) (Stop ShapeFault)) → r' ≡ r
+pub gives_at : (r r' : Result Progress ShapeFault) (new : Progress) (result : Result (Unit {0}) (Stop ShapeFault))
+    → r' ≡ r
     → Gives r new result → Gives r' new result
 gives_at r r' new result e g = subst (λ r. Gives r new result) (sym e) g
 

@@ -23,7 +23,7 @@ use Rattle.cga_check.specs.Uses as used
 use Rattle.cga_expr.specs.Names.{Known, number_of}
 use Rattle.cga_shape.specs.declared.emitted.Emitted.TheVariants as emitted
 use Rattle.cga_shape.specs.declared.shape_fault.ShapeFault.{ShapeFault}
-use Rattle.cga_expand.specs.declared.state.State.{State}
+use Rattle.cga_expand.specs.declared.progress.Progress.{Progress}
 use Rattle.cga_expand.specs.Collect.{collected}
 use Rattle.cga_expand.specs.Faults.{faulted, of_overflow, of_expr, of_scope, of_split}
 use Rattle.cga_expand.specs.Scopes.{sized, value_in, size_in, part_in, subdivided, repeated, taken_apart}
@@ -90,7 +90,7 @@ module _ (k : Known) (others : List Attribute) where
 
   -- where the names agree, the same is done
   abbrev Same : Walk → List Use → Type 0
-  Same w us = Agrees k others us → (s : State) → w k s ≡ w Other s
+  Same w us = Agrees k others us → (s : Progress) → w k s ≡ w Other s
 
   abbrev SomeItem : Type 0
   SomeItem = (i : Item) × Same (item_walk i) (used.item_uses i)
@@ -98,26 +98,26 @@ module _ (k : Known) (others : List Attribute) where
   abbrev SomeBody : Type 0
   SomeBody = (b : Body) × Same (body_walk b) (used.body_uses b)
 
-  turn_step : (w : Walk) (ws : List Walk) (s : State) → w k s ≡ w Other s
-      → ((t : State) → in_turn ws k t ≡ in_turn ws Other t) → in_turn (w ∷ ws) k s ≡ in_turn (w ∷ ws) Other s
+  turn_step : (w : Walk) (ws : List Walk) (s : Progress) → w k s ≡ w Other s
+      → ((t : Progress) → in_turn ws k t ≡ in_turn ws Other t) → in_turn (w ∷ ws) k s ≡ in_turn (w ∷ ws) Other s
   turn_step w ws s e h = ap (λ o. and_then o (in_turn ws k)) e ∙ followed_by (w Other s) (in_turn ws k) (in_turn ws Other) h
 
   items_same : (items : List SomeItem) → Agrees k others (used.all (map used.item_uses (map (λ e. e.0) items)))
-      → (s : State)
+      → (s : Progress)
       → in_turn (map item_walk (map (λ e. e.0) items)) k s ≡ in_turn (map item_walk (map (λ e. e.0) items)) Other s
   items_same [] h s = refl
   items_same (i ∷ items) h s =
       turn_step (item_walk i.0) (map item_walk (map (λ e. e.0) items)) s (i.1 (agrees_left k others (used.item_uses i.0) _ h) s)
       (items_same items (agrees_right k others (used.item_uses i.0) _ h))
 
-  body_same : (w : Walk) → ((s : State) → w k s ≡ w Other s) → (parts : List Scope) (s : State)
+  body_same : (w : Walk) → ((s : Progress) → w k s ≡ w Other s) → (parts : List Scope) (s : Progress)
       → over_body w parts k s ≡ over_body w parts Other s
   body_same w h [] s = refl
   body_same w h (p ∷ ps) s =
       ap (λ o. and_then o (over_body w ps k)) (h (with_scope p s)) ∙ followed_by (w Other (with_scope p s)) (over_body w ps k) (over_body w ps Other) (body_same w h ps)
 
   bodies_same : (bodies : List SomeBody) → Agrees k others (used.all (map used.body_uses (map (λ e. e.0) bodies)))
-      → (parts : List Scope) (s : State)
+      → (parts : List Scope) (s : Progress)
       → over_bodies (map body_walk (map (λ e. e.0) bodies)) parts k s ≡ over_bodies
       (map body_walk (map (λ e. e.0) bodies)) parts Other s
   bodies_same [] h [] s = refl
@@ -128,11 +128,12 @@ module _ (k : Known) (others : List Attribute) where
       ap (λ o. and_then o (over_bodies ws ps k)) (b.1 (agrees_left k others (used.body_uses b.0) _ h) (with_scope p s))
       ∙ followed_by (body_walk b.0 Other (with_scope p s)) (over_bodies ws ps k) (over_bodies ws ps Other) (bodies_same bs (agrees_right k others (used.body_uses b.0) _ h) ps)
 
-  restored_same : (w : Walk) (s : State) → w k s ≡ w Other s → restored w k s ≡ restored w Other s
+  restored_same : (w : Walk) (s : Progress) → w k s ≡ w Other s → restored w k s ≡ restored w Other s
   restored_same w s e = ap (λ o. and_then o (λ t. Ok (with_scope s.scope t))) e
 
-  over_same : (made made' : Result (List Scope) ShapeFault) (each : List Scope → Walk) (s : State) → made ≡ made'
-      → ((ps : List Scope) (t : State) → each ps k t ≡ each ps Other t) → over made each k s ≡ over made' each Other s
+  over_same : (made made' : Result (List Scope) ShapeFault) (each : List Scope → Walk) (s : Progress) → made ≡ made'
+      → ((ps : List Scope) (t : Progress) → each ps k t ≡ each ps Other t)
+      → over made each k s ≡ over made' each Other s
   over_same made made' each s e h =
       ap (λ o. over o each k s) e
       ∙ followed_by made' (λ ps. and_then (count_parts (length ps) s) (restored (each ps) k)) (λ ps. and_then (count_parts (length ps) s) (restored (each ps) Other))
@@ -229,7 +230,7 @@ module _ (k : Known) (others : List Attribute) where
   pub item_reads : (i : Item) → Same (item_walk i) (used.item_uses i)
   item_reads = ind-Item (λ i. Same (item_walk i) (used.item_uses i)) (λ b. Same (body_walk b) (used.body_uses b)) item_reads_step body_reads_step
 
-  pub turn_reads : (items : List Item) → Agrees k others (flat_map used.item_uses items) → (s : State)
+  pub turn_reads : (items : List Item) → Agrees k others (flat_map used.item_uses items) → (s : Progress)
       → in_turn (map item_walk items) k s ≡ in_turn (map item_walk items) Other s
   turn_reads [] h s = refl
   turn_reads (i ∷ items) h s =

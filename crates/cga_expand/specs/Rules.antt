@@ -16,7 +16,7 @@ use Rattle.cga_shape.specs.declared.shape.Shape.{Shape}
 use Rattle.cga_shape.specs.declared.shape_fault.ShapeFault.{ShapeFault}
 use Rattle.cga_shape.specs.declared.shape_fault.ShapeFault.TheVariants.{TooDeep, Unmatched}
 use Rattle.cga_expand.specs.declared.limits.TheConstants.{MOST_DEPTH, MILLIONTHS}
-use Rattle.cga_expand.specs.declared.state.State.{State}
+use Rattle.cga_expand.specs.declared.progress.Progress.{Progress}
 use Rattle.cga_expand.specs.Faults.{faulted, of_expr}
 use Rattle.cga_expand.specs.Walk.{in_turn, item_walk}
 
@@ -49,7 +49,7 @@ picked number before [] = None
 picked number before (a ∷ more) =
     if nat_lt number (before + millionths a.prob) then Some a.items else picked number (before + millionths a.prob) more
 
-abbrev pub start : Shape → State
+abbrev pub start : Shape → Progress
 start shape = record { scope = shape.scope; children = []; parts = 0 }
 
 -- the items in order; no valid grammar leaves a number without an alternative

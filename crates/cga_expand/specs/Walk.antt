@@ -16,20 +16,20 @@ use Rattle.cga_shape.specs.declared.emitted.Emitted.TheVariants as emitted
 use Rattle.cga_shape.specs.declared.shape_fault.ShapeFault.{ShapeFault}
 use Rattle.cga_shape.specs.declared.shape_fault.ShapeFault.TheVariants.{TooManyParts, TooManyChildren}
 use Rattle.cga_expand.specs.declared.limits.TheConstants.{MOST_CHILDREN, MOST_PARTS}
-use Rattle.cga_expand.specs.declared.state.State.{State}
+use Rattle.cga_expand.specs.declared.progress.Progress.{Progress}
 use Rattle.cga_expand.specs.Collect.{collected}
 use Rattle.cga_expand.specs.Faults.{faulted, of_solid}
 use Rattle.cga_expand.specs.Scopes.{value_in, moved_by, resized_by, turned_by, subdivided, repeated, taken_apart}
 
 -- what a part of a successor does
 abbrev pub Walk : Type 0
-Walk = Known → State → Result State ShapeFault
+Walk = Known → Progress → Result Progress ShapeFault
 
-abbrev pub with_scope : Scope → State → State
+abbrev pub with_scope : Scope → Progress → Progress
 with_scope scope s = record s { scope = scope }
 
 -- the index of the next child, up to the limit
-abbrev pub next_index : State → Result ℕ ShapeFault
+abbrev pub next_index : Progress → Result ℕ ShapeFault
 next_index s = if nat_le MOST_CHILDREN (length s.children) then Err TooManyChildren else Ok (length s.children)
 
 -- one more child, made with the seed of its index
@@ -37,7 +37,7 @@ abbrev pub emit : (ℕ → Emitted) → Walk
 emit made k s = and_then (next_index s) (λ i. Ok (record s { children = s.children ++ made (child_seed_of k.seed i) ∷ [] }))
 
 -- so many more parts, up to the limit
-abbrev pub count_parts : ℕ → State → Result State ShapeFault
+abbrev pub count_parts : ℕ → Progress → Result Progress ShapeFault
 count_parts n s = if nat_lt MOST_PARTS (s.parts + n) then Err TooManyParts else Ok (record s { parts = s.parts + n })
 
 -- I: the solid can be drawn into the scope, then it is emitted
@@ -49,7 +49,7 @@ abbrev pub grown : List ℕ → List Expr → Walk
 grown symbol args k s = and_then (collected (value_in k s.scope) args) (λ xs. emit (emitted.Child symbol xs s.scope) k s)
 
 -- another scope
-abbrev pub rescoped : Result Scope ShapeFault → State → Result State ShapeFault
+abbrev pub rescoped : Result Scope ShapeFault → Progress → Result Progress ShapeFault
 rescoped made s = and_then made (λ scope. Ok (with_scope scope s))
 
 abbrev pub in_turn : List Walk → Walk

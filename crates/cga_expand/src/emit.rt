@@ -9,8 +9,8 @@ ghost use Rattle.cga_expand.specs.Walk.{count_parts, drawn, grown, next_index};
 
 use crate::faults::or_solid;
 use crate::limits::{MOST_CHILDREN, MOST_PARTS};
+use crate::progress::Progress;
 use crate::scopes::value_in;
-use crate::state::State;
 use cga_expr::Names;
 use cga_fraction::{Fraction, List, Stop};
 use cga_frame::Scope;
@@ -20,7 +20,7 @@ use cga_solid::check_solid;
 use cga_word::{Name, Primitive, child_seed};
 use std::alloc::Global;
 
-fn next_index(state: &State) -> Result<u16, ShapeFault>
+fn next_index(state: &Progress) -> Result<u16, ShapeFault>
     ensures { result ≡ next_index state.now }
 {
     let index = state.children.len();
@@ -31,7 +31,7 @@ fn next_index(state: &State) -> Result<u16, ShapeFault>
 }
 
 pub(crate) fn draw(
-    state: &mut State,
+    state: &mut Progress,
     primitive: Primitive,
     names: &Names,
 ) -> Result<(), Stop<ShapeFault>>
@@ -50,7 +50,7 @@ pub(crate) fn draw(
 
 pub(crate) fn grow(
     alloc: Global,
-    state: &mut State,
+    state: &mut Progress,
     symbol: Name,
     args: &List<Expr>,
     names: &Names,
@@ -69,7 +69,7 @@ pub(crate) fn grow(
     Ok(())
 }
 
-pub(crate) fn count_parts(state: &mut State, made: usize) -> Result<(), Stop<ShapeFault>>
+pub(crate) fn count_parts(state: &mut Progress, made: usize) -> Result<(), Stop<ShapeFault>>
     ensures { Gives (count_parts made state.old) state.new result }
 {
     if made > MOST_PARTS || state.parts > MOST_PARTS - made {

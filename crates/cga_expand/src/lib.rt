@@ -16,11 +16,11 @@ pub mod laws;
 pub mod limits;
 mod parts;
 mod places;
+mod progress;
 mod rules;
 mod scopes;
-mod state;
 mod walk;
 
 pub use by_place::RulesByPlace;
+pub use progress::Progress;
 pub use rules::{ExpandKey, Expansions, expand, expand_by_place};
-pub use state::State;

@@ -8,7 +8,7 @@ ghost use Rattle.cga_expand.specs.Rules.{drawn_number, expansion, millionths, pi
 use crate::by_place::RulesByPlace;
 use crate::choose::{chosen_rule, names_of};
 use crate::limits::{MILLIONTHS, MOST_CHILDREN, MOST_DEPTH};
-use crate::state::State;
+use crate::progress::Progress;
 use crate::walk::walk_items;
 use cga_fraction::{Fraction, List, NoMemory, Steps, Stop};
 use cga_rule::{Alternative, Attribute, Entry, Grammar, Item};
@@ -65,7 +65,7 @@ fn expansion(
     let Some(items) = picked_items(rule.alternatives.as_slice(), drawn_number(shape)) else {
         return Ok(Err(ShapeFault::Unmatched));
     };
-    let mut state = State {
+    let mut state = Progress {
         scope: shape.scope,
         children: List::new(alloc),
         parts: 0,
@@ -73,7 +73,7 @@ fn expansion(
     let names = names_of(attributes, shape, rule);
     match walk_items(alloc, items.as_slice(), &names, &mut state) {
         Ok(()) => {
-            let State { children, .. } = state;
+            let Progress { children, .. } = state;
             Ok(Ok(children))
         }
         Err(Stop::Fault(fault)) => Ok(Err(fault)),

@@ -7,8 +7,8 @@ ghost use Rattle.cga_expand.specs.Walk.{body_walk, in_turn, item_walk, over, ove
 
 use crate::emit::{count_parts, draw, grow};
 use crate::parts::{repeated, subdivided, taken_apart};
+use crate::progress::Progress;
 use crate::scopes::{moved, resized, turned};
-use crate::state::State;
 use cga_expr::Names;
 use cga_fraction::{List, Stop};
 use cga_frame::Scope;
@@ -23,7 +23,7 @@ pub(crate) fn walk_items(
     alloc: Global,
     items: &[Item],
     names: &Names,
-    state: &mut State,
+    state: &mut Progress,
 ) -> Result<(), Stop<ShapeFault>>
     ensures { Gives (in_turn (map item_walk items.now) (seen names.now) state.old) state.new result }
 {
@@ -40,7 +40,7 @@ fn walk_body(
     body: &Body,
     names: &Names,
     scope: Scope,
-    state: &mut State,
+    state: &mut Progress,
 ) -> Result<(), Stop<ShapeFault>>
     ensures { Gives (body_walk body.now (seen names.now) (with_scope scope state.old)) state.new result }
 {
@@ -55,7 +55,7 @@ fn walk_parts(
     body: &Body,
     parts: &[Scope],
     names: &Names,
-    state: &mut State,
+    state: &mut Progress,
 ) -> Result<(), Stop<ShapeFault>>
     ensures { Gives (over_body (body_walk body.now) parts.now (seen names.now) state.old) state.new result }
 {
@@ -72,7 +72,7 @@ fn walk_each(
     bodies: &[Body],
     parts: &[Scope],
     names: &Names,
-    state: &mut State,
+    state: &mut Progress,
 ) -> Result<(), Stop<ShapeFault>>
     ensures { Gives (over_bodies (map body_walk bodies.now) parts.now (seen names.now) state.old) state.new result }
 {
@@ -94,7 +94,7 @@ fn walk_subdiv(
     axis: Axis,
     sizes: &List<Size>,
     names: &Names,
-    state: &mut State,
+    state: &mut Progress,
 ) -> Result<(), Stop<ShapeFault>>
     ensures { Gives (over (subdivided axis sizes.now (seen names.now) state.old.scope)
         (over_bodies (map body_walk bodies.now)) (seen names.now) state.old) state.new result }
@@ -114,7 +114,7 @@ fn walk_repeat(
     axis: Axis,
     length: &Expr,
     names: &Names,
-    state: &mut State,
+    state: &mut Progress,
 ) -> Result<(), Stop<ShapeFault>>
     ensures { Gives (over (repeated axis length.now (seen names.now) state.old.scope)
         (over_body (body_walk body.now)) (seen names.now) state.old) state.new result }
@@ -133,7 +133,7 @@ fn walk_comp(
     body: &Body,
     selector: Selector,
     names: &Names,
-    state: &mut State,
+    state: &mut Progress,
 ) -> Result<(), Stop<ShapeFault>>
     ensures { Gives (over (taken_apart selector state.old.scope)
         (over_body (body_walk body.now)) (seen names.now) state.old) state.new result }
@@ -152,7 +152,7 @@ fn walk_item(
     alloc: Global,
     item: &Item,
     names: &Names,
-    state: &mut State,
+    state: &mut Progress,
 ) -> Result<(), Stop<ShapeFault>>
     ensures { Gives (item_walk item.now (seen names.now) state.old) state.new result }
 {

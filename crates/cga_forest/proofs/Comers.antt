@@ -3,15 +3,15 @@ use Rattle.std.proofs.Common.{◌≡◌, ◌≢◌, ℕ, inl, inr, List, [], ◌
 use Rattle.std.specs.Prelude.{Option, Some, None, is_some, slice_get, IsSome, if◌then◌else◌}
 use Rattle.cga_index.specs.Tree.{Member}
 use Rattle.cga_forest.specs.declared.slot_entry.SlotEntry.{SlotEntry}
-use Rattle.cga_forest.specs.declared.moved.Moved.{Moved}
+use Rattle.cga_forest.specs.declared.node_change.NodeChange.{NodeChange}
 use Rattle.cga_forest.specs.declared.node.Node.{Node}
 use Rattle.cga_forest.specs.View.{Seen, kids, present_of, seen}
-use Rattle.cga_forest.specs.Moved.{moved_of}
+use Rattle.cga_forest.specs.NodeChange.{moved_of}
 use Rattle.cga_forest.specs.Gathered.{coming, found, found_at}
 use Rattle.cga_forest.specs.Tree.{IsPlaced}
 use Rattle.cga_forest.proofs.Place.{same_kids}
 use Rattle.cga_forest.proofs.Present.{present_some}
-use Rattle.cga_forest.proofs.WentCame.{coming_in}
+use Rattle.cga_forest.proofs.RemovedAndCreated.{coming_in}
 
 found_of : (c : ℕ) (o : Option SlotEntry) (d : Seen) → present_of o ≡ Some d → found_at c o ≡ moved_of c d ∷ []
 found_of c o d h =
@@ -26,7 +26,7 @@ found_like s t [] h = refl
 found_like s t (x ∷ xs) h =
     let w = h x (inl refl) in
     let one : found_at x (s x) ≡ found_at x (t x) = found_of x (s x) w.0 w.1 ∙ sym (found_of x (t x) w.0 w.2) in
-    ap (λ (l : List Moved). l ++ found s xs) one ∙ ap (λ (l : List Moved). found_at x (t x) ++ l) (found_like s t xs (λ c m. h c (inr m)))
+    ap (λ (l : List NodeChange). l ++ found s xs) one ∙ ap (λ (l : List NodeChange). found_at x (t x) ++ l) (found_like s t xs (λ c m. h c (inr m)))
 
 module _ (old now : ℕ → Option SlotEntry) (id depth : ℕ) (marking : Bool) (news : List Node) (made : List ℕ)
     (placed : IsPlaced old now id depth marking (kids (old id)) news made) (here : IsSome (old id)) where

@@ -152,13 +152,13 @@ module _ (s0 s1 s2 s3 : ℕ → Option SlotEntry) (id depth n : ℕ) (marking : 
       → present_of (s3 c) ≡ (if gone c then None else present_of (s0 c))
   rest_of c x ne h = ap present_of (others c ne ∙ old_slot c x h) ∙ present_flag (gone c) (s0 c)
 
-  came_none : (c : ℕ) (o : Option SlotEntry) → s0 c ≡ o → present_of o ≡ None
+  created_none : (c : ℕ) (o : Option SlotEntry) → s0 c ≡ o → present_of o ≡ None
       → (present_of (s3 c) ≡ None) ⊎ ((i : ℕ) × (slice_get made i ≡ Some c))
-  came_none c None q h = elim (placed.came c (dropped c ∙ flag_none (gone c) (s0 c) q)) [
+  created_none c None q h = elim (placed.created c (dropped c ∙ flag_none (gone c) (s0 c) q)) [
     | inl y ↦ inl (ap present_of (others c (not_id c (ap present_of q)) ∙ y))
     | inr w ↦ inr w
   ]
-  came_none c (Some x) q h = inl (rest_of c x (not_id c (ap present_of q ∙ h)) q ∙ if_none (gone c) (present_of (s0 c)) (ap present_of q ∙ h))
+  created_none c (Some x) q h = inl (rest_of c x (not_id c (ap present_of q ∙ h)) q ∙ if_none (gone c) (present_of (s0 c)) (ap present_of q ∙ h))
 
   stays_at : (i c : ℕ) → slice_get e.children i ≡ Some c → gone c ≡ false → slice_get made i ≡ Some c
   stays_at i c o g =
@@ -218,7 +218,7 @@ module _ (s0 s1 s2 s3 : ℕ → Option SlotEntry) (id depth n : ℕ) (marking : 
         let bound = tree.shallow c d t in let a = r.3 in
         here f.0 f.1 c f.2 f.3 (under_onto (λ x. kids (s0 x)) (λ x. present_of (s0 x)) tree K_same n f.1 c p r.0 d r.1 t par (omega arith) f.4);
     self = self_stays;
-    came = λ c h. came_none c (s0 c) refl h;
+    created = λ c h. created_none c (s0 c) refl h;
     rest = λ c d ne t. let w = present_some (s0 c) d t in rest_of c w.0 ne w.1 ∙ ap (λ o. if gone c then None else o) t;
   }
 
@@ -261,31 +261,31 @@ module _ (s0 s1 s2 s3 : ℕ → Option SlotEntry) (id depth n : ℕ) (marking : 
   -- ---- the mark
 
   module _ (on : marking ≡ true) (marked : marked_of (s3 id) ≡ marked_of (s2 id)) (marked_hulls : marked_hulls_of (s3 id) ≡ marked_hulls_of (s2 id)) where
-    came_apart : (i c : ℕ) (w : Node) → s0 c ≡ None → IsPlacedChild s1 s2 id depth marking e.children w i c
+    created_apart : (i c : ℕ) (w : Node) → s0 c ≡ None → IsPlacedChild s1 s2 id depth marking e.children w i c
         → IsNewEntry (s2 c) (Some id) w depth i marking
-    came_apart i c w q p = elim p [
+    created_apart i c w q p = elim p [
       | inl o ↦ (let u = tree.down id i c e was o.0 in let z : None ≡ Some u.0 = ap present_of (sym q) ∙ u.1 in absurd (cc))
       | inr v ↦ v.1
     ]
 
     placed_mark : (f : Option SlotEntry → Option Seen) → ((b : Bool) (s : Option SlotEntry) → f (flag_if b s) ≡ f s)
-        → f None ≡ None → ((x : SlotEntry) → x.came ≡ true → f (Some x) ≡ None) → (c : ℕ) (o : Option SlotEntry)
+        → f None ≡ None → ((x : SlotEntry) → x.created ≡ true → f (Some x) ≡ None) → (c : ℕ) (o : Option SlotEntry)
         → s0 c ≡ o
         → f (s2 c) ≡ f (s0 c)
     placed_mark f flag none new c (Some x) q = ap f (old_slot c x q) ∙ flag (gone c) (s0 c)
-    placed_mark f flag none new c None q = elim (placed.came c (dropped c ∙ flag_none (gone c) (s0 c) q)) [
+    placed_mark f flag none new c None q = elim (placed.created c (dropped c ∙ flag_none (gone c) (s0 c) q)) [
       | inl y ↦ ap f (y ∙ sym q)
-      | inr w ↦ (let p = placed.each w.0 c w.1 in let v = came_apart w.0 c p.0 q p.2 in ap f v.here ∙ new v.entry (v.comes ∙ on) ∙ sym (ap f q ∙ none))
+      | inr w ↦ (let p = placed.each w.0 c w.1 in let v = created_apart w.0 c p.0 q p.2 in ap f v.here ∙ new v.entry (v.comes ∙ on) ∙ sym (ap f q ∙ none))
     ]
 
     placed_hulls : (f : Option SlotEntry → Option Hulls) → ((b : Bool) (s : Option SlotEntry) → f (flag_if b s) ≡ f s)
-        → f None ≡ None → ((x : SlotEntry) → x.came ≡ true → f (Some x) ≡ None) → (c : ℕ) (o : Option SlotEntry)
+        → f None ≡ None → ((x : SlotEntry) → x.created ≡ true → f (Some x) ≡ None) → (c : ℕ) (o : Option SlotEntry)
         → s0 c ≡ o
         → f (s2 c) ≡ f (s0 c)
     placed_hulls f flag none new c (Some x) q = ap f (old_slot c x q) ∙ flag (gone c) (s0 c)
-    placed_hulls f flag none new c None q = elim (placed.came c (dropped c ∙ flag_none (gone c) (s0 c) q)) [
+    placed_hulls f flag none new c None q = elim (placed.created c (dropped c ∙ flag_none (gone c) (s0 c) q)) [
       | inl y ↦ ap f (y ∙ sym q)
-      | inr w ↦ (let p = placed.each w.0 c w.1 in let v = came_apart w.0 c p.0 q p.2 in ap f v.here ∙ new v.entry (v.comes ∙ on) ∙ sym (ap f q ∙ none))
+      | inr w ↦ (let p = placed.each w.0 c w.1 in let v = created_apart w.0 c p.0 q p.2 in ap f v.here ∙ new v.entry (v.comes ∙ on) ∙ sym (ap f q ∙ none))
     ]
 
     pub mark_kept : (c : ℕ) → marked_of (s3 c) ≡ marked_of (s0 c)

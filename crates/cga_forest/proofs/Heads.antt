@@ -16,8 +16,8 @@ use Rattle.cga_forest.proofs.Present.{parent_present, present_some}
 pub settled_hulls : (s : Option SlotEntry) (h : Hulls) → hulls_of (settled s) ≡ Some h → hulls_of s ≡ Some h
 settled_hulls None h e = e
 settled_hulls (Some x) h e = elim (bool_cases x.aside) [
-  | inl y ↦ (let z : None ≡ Some h = ap (λ b. hulls_of (if b then None else Some (record x { came = false; touched = false; former = None; former_hulls = None }))) (sym y) ∙ e in absurd (cc))
-  | inr n ↦ ap (λ b. hulls_of (if b then None else Some (record x { came = false; touched = false; former = None; former_hulls = None }))) (sym n) ∙ e
+  | inl y ↦ (let z : None ≡ Some h = ap (λ b. hulls_of (if b then None else Some (record x { created = false; touched = false; former = None; former_hulls = None }))) (sym y) ∙ e in absurd (cc))
+  | inr n ↦ ap (λ b. hulls_of (if b then None else Some (record x { created = false; touched = false; former = None; former_hulls = None }))) (sym n) ∙ e
 ]
 
 -- ---- on the way up from a node

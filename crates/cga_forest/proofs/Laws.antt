@@ -205,10 +205,10 @@ in_inside v w same f n h = subst (λ (x : ForestView). InTree (forest_tree x) n)
 -- a node has the parent that it had at the mark
 marked_parent : (s : Option SlotEntry) (b : Seen) → marked_of s ≡ Some b → b.parent ≡ parent_of s
 marked_parent None b m = let z : None ≡ Some b = m in absurd (cc)
-marked_parent (Some x) b m = by_books x.came x.former m
+marked_parent (Some x) b m = by_books x.created x.former m
   where
-    by_books : (came : Bool) (former : Option Former)
-        → (if came then None else Some (seen (restored x former))) ≡ Some b → b.parent ≡ x.parent
+    by_books : (created : Bool) (former : Option Former)
+        → (if created then None else Some (seen (restored x former))) ≡ Some b → b.parent ≡ x.parent
     by_books true former e = let z : None ≡ Some b = e in absurd (cc)
     by_books false None e = let z : Some (seen x) ≡ Some b = e in let y : seen x ≡ b = (cc) in ap (λ (d : Seen). d.parent) (sym y)
     by_books false (Some f) e = let z : Some (seen (restored x (Some f))) ≡ Some b = e in let y : seen (restored x (Some f)) ≡ b = (cc) in ap (λ (d : Seen). d.parent) (sym y)

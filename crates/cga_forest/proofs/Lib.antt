@@ -20,7 +20,7 @@ mod Least
 mod Tops
 mod Listed
 mod Moves
-mod WentCame
+mod RemovedAndCreated
 mod Comers
 mod Above
 mod Laws

@@ -7,9 +7,9 @@ use Rattle.std.proofs.lemmas.Option.{slice_get_cases}
 use Rattle.cga_index.specs.Tree.{Member, Apart}
 use Rattle.cga_order.specs.World.{Among}
 use Rattle.cga_forest.specs.declared.slot_entry.SlotEntry.{SlotEntry}
-use Rattle.cga_forest.specs.declared.moved.Moved.{Moved}
+use Rattle.cga_forest.specs.declared.node_change.NodeChange.{NodeChange}
 use Rattle.cga_forest.specs.declared.node.Node.{Node}
-use Rattle.cga_forest.specs.Moved.{moved_node, ids_of}
+use Rattle.cga_forest.specs.NodeChange.{moved_node, ids_of}
 use Rattle.cga_forest.specs.Gathered.{found, found_at, below, going, going_at, coming, coming_at, is_come}
 pub use Rattle.std.proofs.lemmas.Grind.{flat_map-append as flat_append}
 pub use Rattle.cga_fraction.proofs.Door.{Some_from_is_some as some_from, cases_Option as opt_cases}
@@ -35,19 +35,19 @@ flat_next f xs i x h = ap (flat_map f) (take_next xs i x h) ∙ flat_append f (t
 -- ---- what is found
 
 module _ (s : ℕ → Option SlotEntry) where
-  pub found_join : (a b c : List Moved) (xs ys : List ℕ) → b ≡ a ++ found s xs → c ≡ b ++ found s ys
+  pub found_join : (a b c : List NodeChange) (xs ys : List ℕ) → b ≡ a ++ found s xs → c ≡ b ++ found s ys
       → c ≡ a ++ found s (xs ++ ys)
   found_join a b c xs ys p q =
       q ∙ ap (λ l. l ++ found s ys) p ∙ append_assoc a (found s xs) (found s ys) ∙ ap (λ l. a ++ l) (sym (flat_append (λ k. found_at k (s k)) xs ys))
 
   -- the numbers may be told otherwise
-  pub found_is : (a b : List Moved) (xs ys : List ℕ) → xs ≡ ys → b ≡ a ++ found s xs → b ≡ a ++ found s ys
+  pub found_is : (a b : List NodeChange) (xs ys : List ℕ) → xs ≡ ys → b ≡ a ++ found s xs → b ≡ a ++ found s ys
   found_is a b xs ys e p = p ∙ ap (λ l. a ++ found s l) e
 
-  pub found_none : (a : List Moved) (xs : List ℕ) → xs ≡ [] → a ≡ a ++ found s xs
+  pub found_none : (a : List NodeChange) (xs : List ℕ) → xs ≡ [] → a ≡ a ++ found s xs
   found_none a xs e = sym (ap (λ l. a ++ found s l) e ∙ append-nil a)
 
-  pub found_in : (m : Moved) (xs : List ℕ) → Among m (found s xs)
+  pub found_in : (m : NodeChange) (xs : List ℕ) → Among m (found s xs)
       → (c : ℕ) × (e : SlotEntry) × Member xs c × (s c ≡ Some e) × (m ≡ moved_node c e.node)
   found_in m [] h = absurd h
   found_in m (x ∷ xs) h = (elim (s x) as (λ o. s x ≡ o → Among m (found_at x o ++ found s xs) → (c : ℕ) × (e : SlotEntry) × Member (x ∷ xs) c × (s c ≡ Some e) × (m ≡ moved_node c e.node)) [
@@ -55,7 +55,7 @@ module _ (s : ℕ → Option SlotEntry) where
     | Some e ↦ (λ q j. elim j [ inl y ↦ (x, e, inl refl, q, sym y) | inr n ↦ (let r = found_in m xs n in (r.0, r.1, inr r.2, r.3, r.4)) ])
   ]) refl h
 
-  among_right : (m : Moved) (xs ys : List Moved) → Among m ys → Among m (xs ++ ys)
+  among_right : (m : NodeChange) (xs ys : List NodeChange) → Among m ys → Among m (xs ++ ys)
   among_right m [] ys h = h
   among_right m (x ∷ xs) ys h = inr (among_right m xs ys h)
 

@@ -33,7 +33,7 @@ present_flag true (Some e) = refl
 pub marked_flag : (b : Bool) (s : Option SlotEntry) → marked_of (flag_if b s) ≡ marked_of s
 marked_flag false s = refl
 marked_flag true None = refl
-marked_flag true (Some e) = elim e.former as (λ o. (if e.came then None else Some (seen (restored (record e { aside = true; touched = true }) o))) ≡ (if e.came then None else Some (seen (restored e o)))) [ None ↦ refl | Some f ↦ refl ]
+marked_flag true (Some e) = elim e.former as (λ o. (if e.created then None else Some (seen (restored (record e { aside = true; touched = true }) o))) ≡ (if e.created then None else Some (seen (restored e o)))) [ None ↦ refl | Some f ↦ refl ]
 
 pub present_settled : (s : Option SlotEntry) → present_of (settled s) ≡ present_of s
 present_settled None = refl
@@ -70,12 +70,12 @@ pub hulls_settled : (s : Option SlotEntry) (d : Seen) → present_of s ≡ Some 
 hulls_settled None d h = refl
 hulls_settled (Some e) d h = elim (bool_cases e.aside) [
   | inl y ↦ (let z : None ≡ Some d = ap (λ b. if b then None else Some (seen e)) (sym y) ∙ h in absurd (cc))
-  | inr n ↦ ap (λ b. hulls_of (if b then None else Some (record e { came = false; touched = false; former = None; former_hulls = None }))) n
+  | inr n ↦ ap (λ b. hulls_of (if b then None else Some (record e { created = false; touched = false; former = None; former_hulls = None }))) n
 ]
 
 pub hulls_rolled : (s : Option SlotEntry) → hulls_of (rolled s) ≡ marked_hulls_of s
 hulls_rolled None = refl
-hulls_rolled (Some e) = elim e.came as (λ b. hulls_of (if b then None else Some (record (restored e e.former) { hulls = former_hulls e.hulls e.former_hulls; aside = false; came = false; touched = false; former = None; former_hulls = None })) ≡ (if b then None else Some (hulls_known e.node (former_hulls e.hulls e.former_hulls)))) [ true ↦ refl | false ↦ ap (λ h. Some h) (known_restored e e.former (former_hulls e.hulls e.former_hulls)) ]
+hulls_rolled (Some e) = elim e.created as (λ b. hulls_of (if b then None else Some (record (restored e e.former) { hulls = former_hulls e.hulls e.former_hulls; aside = false; created = false; touched = false; former = None; former_hulls = None })) ≡ (if b then None else Some (hulls_known e.node (former_hulls e.hulls e.former_hulls)))) [ true ↦ refl | false ↦ ap (λ h. Some h) (known_restored e e.former (former_hulls e.hulls e.former_hulls)) ]
 
 pub marked_hulls_plain : (s : Option SlotEntry) → ((e : SlotEntry) → s ≡ Some e → IsPlain e)
     → marked_hulls_of s ≡ hulls_of s
@@ -205,7 +205,7 @@ module _ (old new : ForestView) (id : ℕ) (node : Node) (fresh : slot_at old id
     marked = λ q. let on : old.marking ≡ true = sym m ∙ q in IsWhole-same (marked_at old) (marked_at new) (marked_hulls_at old) (marked_hulls_at new) (added_mark on) (λ c e t. added_mark_hulls on c) (f.marked on);
     plain = λ q k x t. let off : old.marking ≡ false = sym m ∙ q in elim (nat_cases k id) [
       | inl y ↦ (let z : Some made.entry ≡ Some x = sym made.here ∙ ap (slot_at new) (sym y) ∙ t in let w : made.entry ≡ x = (cc) in
-          record { here = ap (λ (r : SlotEntry). r.aside) (sym w) ∙ made.shows; old = ap (λ (r : SlotEntry). r.came) (sym w) ∙ made.comes ∙ off; same = ap (λ (r : SlotEntry). r.former) (sym w) ∙ made.nothing; hulls = ap (λ (r : SlotEntry). r.former_hulls) (sym w) ∙ made.no_hulls })
+          record { here = ap (λ (r : SlotEntry). r.aside) (sym w) ∙ made.shows; old = ap (λ (r : SlotEntry). r.created) (sym w) ∙ made.comes ∙ off; same = ap (λ (r : SlotEntry). r.former) (sym w) ∙ made.nothing; hulls = ap (λ (r : SlotEntry). r.former_hulls) (sym w) ∙ made.no_hulls })
       | inr n ↦ f.plain off k x (sym (others k n) ∙ t)
     ];
   }

@@ -8,10 +8,10 @@ use Rattle.std.proofs.lemmas.Bool.{cases_Bool as bool_cases}
 use Rattle.cga_order.specs.World.{Among}
 use Rattle.cga_tree.specs.Tree.{IsTree}
 use Rattle.cga_forest.specs.declared.slot_entry.SlotEntry.{SlotEntry}
-use Rattle.cga_forest.specs.declared.moved.Moved.{Moved}
+use Rattle.cga_forest.specs.declared.node_change.NodeChange.{NodeChange}
 use Rattle.cga_forest.specs.declared.node.Node.{Node}
 use Rattle.cga_forest.specs.View.{Seen, kids, present_of}
-use Rattle.cga_forest.specs.Moved.{moved_node, moved_of, Lists}
+use Rattle.cga_forest.specs.NodeChange.{moved_node, moved_of, Lists}
 use Rattle.cga_forest.specs.Gathered.{found, below, going, going_at}
 use Rattle.cga_forest.specs.Tree.{children_of, under}
 use Rattle.cga_forest.proofs.Present.{present_some, kids_present}
@@ -184,6 +184,6 @@ lists_below s tree id e t =
             let c = h.0 in
             let w = present_some (s c) h.1 h.2 in
             let u : under K 257 id c ≡ true = under_same K T tree are 257 id c e t ∙ h.3 in
-            subst (λ (x : Moved). Among x (found s (below K 257 id))) (ap (λ (x : Seen). moved_of c x) w.2 ∙ sym h.4) (found_has s (below K 257 id) c w.0 (under_below K 257 id c u) w.1)),
+            subst (λ (x : NodeChange). Among x (found s (below K 257 id))) (ap (λ (x : Seen). moved_of c x) w.2 ∙ sym h.4) (found_has s (below K 257 id) c w.0 (under_below K 257 id c u) w.1)),
       );
     }

@@ -29,7 +29,7 @@ module _ (old now : ℕ → Option SlotEntry) (id depth : ℕ) (marking : Bool) 
       | inr q ↦ (w, ap (slice_get news) q.0 ∙ asked, inl (ap (slice_get olds) q.0 ∙ at ∙ ap (λ x. Some x) (sym q.1), ap (λ x. stay_of (old x) (Some w)) q.1 ∙ on))
     ];
     rest = p.rest;
-    came = λ c h. elim (p.came c h) [ inl y ↦ inl y | inr w ↦ inr (w.0, get_kept made k w.0 c w.1) ];
+    created = λ c h. elim (p.created c h) [ inl y ↦ inl y | inr w ↦ inr (w.0, get_kept made k w.0 c w.1) ];
   }
 
   gone_none : (k : ℕ) → now k ≡ None → (s : Option SlotEntry) → old k ≡ s → old k ≡ None
@@ -55,9 +55,9 @@ module _ (old now : ℕ → Option SlotEntry) (id depth : ℕ) (marking : Bool) 
           | inr q ↦ (w, ap (slice_get news) q.0 ∙ asked, inr (ap old q.1 ∙ fresh, subst (λ j. IsNewEntry (new c) (Some id) w depth j marking) (sym q.0) (IsNewEntry-same (new k) (new c) (Some id) w depth (length made) marking (ap new q.1) e), λ j h. unfit j (ap (slice_get olds) (sym q.0) ∙ h)))
         ];
         rest = λ c x t. others c (apart c x (p.rest c x t)) ∙ p.rest c x t;
-        came = λ c h. elim (nat_cases c k) [
+        created = λ c h. elim (nat_cases c k) [
           | inl q ↦ inr (length made, get_last made k ∙ ap (λ x. Some x) (sym q))
-          | inr n ↦ elim (p.came c h) [ inl y ↦ inl (others c n ∙ y) | inr w ↦ inr (w.0, get_kept made k w.0 c w.1) ]
+          | inr n ↦ elim (p.created c h) [ inl y ↦ inl (others c n ∙ y) | inr w ↦ inr (w.0, get_kept made k w.0 c w.1) ]
         ];
       }
 
@@ -95,7 +95,7 @@ same_stay old now rest k w here = ap (λ s. stay_of s w) (sym (some_kept old now
 
 pub placed_start : (s : ℕ → Option SlotEntry) (id depth : ℕ) (marking : Bool) (olds : List ℕ) (news : List Node)
     → IsPlaced s s id depth marking olds news []
-placed_start s id depth marking olds news = record { each = λ i c h. absurd (cc); rest = λ c e t. t; came = λ c h. inl h }
+placed_start s id depth marking olds news = record { each = λ i c h. absurd (cc); rest = λ c e t. t; created = λ c h. inl h }
 
 pub get_mid : (xs : List Node) (y : Node) (ys : List Node) → slice_get (xs ++ y ∷ ys) (length xs) ≡ Some y
 get_mid [] y ys = refl

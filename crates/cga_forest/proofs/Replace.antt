@@ -28,7 +28,7 @@ module _ (S T : ℕ → Option Seen) (id : ℕ) (news : List Node) (e now : Seen
       ⊎ ((i : ℕ) × (w : Node) × (slice_get now.children i ≡ Some c) × (slice_get news i ≡ Some w)
       × IsNewChild T id e.depth i w c)
   old_or_new c d t n (Some x) q = let w = cut_some (gone c) (Some x) d (sym (r.rest c x n q) ∙ t) in inl (w.0, q ∙ w.1)
-  old_or_new c d t n None q = elim (r.came c q) [
+  old_or_new c d t n None q = elim (r.created c q) [
     | inl none ↦ absurd (none_some d (sym none ∙ t))
     | inr at ↦ (let x = r.each at.0 c at.1 in elim x.2 [
       | inl old ↦ (let u = tree.down id at.0 c e r.was old.0 in absurd (none_some u.0 (sym q ∙ u.1)))

@@ -5,7 +5,7 @@ use Rattle.cga_forest.specs.declared.slot_entry.SlotEntry.{SlotEntry}
 use Rattle.cga_kept_hulls.specs.declared.hulls.Hulls.{Hulls}
 use Rattle.cga_kept_hulls.specs.Hull.{over, with_hulls, at_hulls, holds_hulls, alike, grown_from}
 use Rattle.cga_forest.specs.declared.hulls_due.HullsDue.{HullsDue}
-use Rattle.cga_forest.specs.declared.hulls_due.HullsDue.TheVariants.{Grown, Moved}
+use Rattle.cga_forest.specs.declared.hulls_due.HullsDue.TheVariants.{Grown, Changed}
 use Rattle.cga_forest.specs.HullsDue.{HoldsAll, due_above, grown_of}
 use Rattle.cga_forest.specs.Hull.{own_hulls, hulls_known}
 use Rattle.cga_forest.specs.View.{Seen, hulls_of, present_of, rehulled, kids}
@@ -179,13 +179,13 @@ pub hulls_now_of : (H : ℕ → Option Hulls) (s : Option SlotEntry) (e : SlotEn
 hulls_now_of H s e own h q o r = ap (hulls_now H) q ∙ ap (λ w. Some (over H w e.children.items (length e.children.items))) (sym o) ∙ ap (λ w. Some w) (sym r)
 
 -- what the parent of a node is told
-moved_told : (grew : Bool) (new k : Hulls) (place i : ℕ) → (if grew then Grown new else Moved place new) ≡ Moved i k
+moved_told : (grew : Bool) (new k : Hulls) (place i : ℕ) → (if grew then Grown new else Changed place new) ≡ Changed i k
     → new ≡ k
 moved_told true new k place i q = absurd (cc)
 moved_told false new k place i q = (cc)
 
 grown_told : (grew : Bool) (new : Hulls) (place : ℕ)
-    → grown_of (if grew then Grown new else Moved place new) ≡ (if grew then Some new else None)
+    → grown_of (if grew then Grown new else Changed place new) ≡ (if grew then Some new else None)
 grown_told true new place = refl
 grown_told false new place = refl
 

@@ -9,8 +9,8 @@ use Rattle.cga_tree.specs.Tree.{IsTree}
 use Rattle.cga_forest.specs.Roots.{HasRoots}
 use Rattle.cga_marked.specs.Map.{Named}
 use Rattle.cga_forest.proofs.Tops.{HasRoots-replaced}
-use Rattle.cga_forest.specs.declared.moved.Moved.{Moved}
-use Rattle.cga_forest.specs.Moved.{ListsMoved}
+use Rattle.cga_forest.specs.declared.node_change.NodeChange.{NodeChange}
+use Rattle.cga_forest.specs.NodeChange.{ListsOnlyIn}
 
 pub same_functions : (f g : ℕ → Option Seen) → ((c : ℕ) → f c ≡ g c) → f ≡ g
 same_functions f g h = λ i. λ c. h c i
@@ -32,9 +32,10 @@ pub Replaces-from : (old new : ℕ → Option Seen) (id : ℕ) (state : NodeStat
     → ReplacedBy old new id state news gone → Replaces old new id state news
 Replaces-from old new id state news gone r = (r.0, r.1, gone, r.2)
 
-pub ListsMoved-same : (a b s t : ℕ → Option Seen) (list : List Moved) → ((c : ℕ) → s c ≡ a c) → ((c : ℕ) → t c ≡ b c)
-    → ListsMoved a b list → ListsMoved s t list
-ListsMoved-same a b s t list p q r =
+pub ListsOnlyIn-same : (a b s t : ℕ → Option Seen) (list : List NodeChange) → ((c : ℕ) → s c ≡ a c)
+    → ((c : ℕ) → t c ≡ b c)
+    → ListsOnlyIn a b list → ListsOnlyIn s t list
+ListsOnlyIn-same a b s t list p q r =
     let x : s ≡ a = same_functions s a p in
     let y : t ≡ b = same_functions t b q in rw (x, y) r
 

@@ -43,9 +43,9 @@ IsTree-cut S T gone h into onto s =
     }
 
 -- a node of the new tree is the one that came, or was there
-came_or_was : (S T : ℕ → Option Seen) (id : ℕ) (e : Seen) → T id ≡ Some e → ((c : ℕ) → c ≢ id → T c ≡ S c)
+created_or_was : (S T : ℕ → Option Seen) (id : ℕ) (e : Seen) → T id ≡ Some e → ((c : ℕ) → c ≢ id → T c ≡ S c)
     → (c : ℕ) (d : Seen) → T c ≡ Some d → (d ≡ e) ⊎ (S c ≡ Some d)
-came_or_was S T id e here others c d t = elim (nat_cases c id) [
+created_or_was S T id e here others c d t = elim (nat_cases c id) [
   | inl q ↦ inl (let z : T id ≡ Some d = rw (← q) t in (cc))
   | inr n ↦ inr (sym (others c n) ∙ t)
 ]
@@ -57,7 +57,7 @@ pub IsTree-root : (S T : ℕ → Option Seen) (id : ℕ) (e : Seen) → S id ≡
 IsTree-root S T id e fresh here root depth leaf others s =
     let apart = λ (c : ℕ) (d : Seen) (t : S c ≡ Some d). let ne : c ≢ id = (λ q. let z : S id ≡ Some d = rw (← q) t in absurd (cc)) in ne in
     let kept = λ (c : ℕ) (d : Seen) (t : S c ≡ Some d). others c (apart c d t) ∙ t in
-    let split = λ (c : ℕ) (d : Seen) (t : T c ≡ Some d). came_or_was S T id e here others c d t in
+    let split = λ (c : ℕ) (d : Seen) (t : T c ≡ Some d). created_or_was S T id e here others c d t in
     record {
       down = λ n i c d t g. elim (split n d t) [
         | inl w ↦ (let z : slice_get [] i ≡ Some c = ap (λ xs. slice_get xs i) (sym leaf ∙ ap (λ (q : Seen). q.children) (sym w)) ∙ g in absurd (cc))

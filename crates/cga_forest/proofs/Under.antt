@@ -8,9 +8,9 @@ use Rattle.std.proofs.lemmas.Option.{get_or_from_slice_get, slice_get_cases}
 use Rattle.std.proofs.Common.{inl, inr}
 use Rattle.std.specs.Prelude.{slice_get, Option, Some, None}
 use Rattle.cga_forest.specs.declared.slot_entry.SlotEntry.{SlotEntry}
-use Rattle.cga_forest.specs.declared.moved.Moved.{Moved}
+use Rattle.cga_forest.specs.declared.node_change.NodeChange.{NodeChange}
 use Rattle.cga_forest.specs.declared.node.Node.{Node}
-use Rattle.cga_forest.specs.Moved.{is_listed}
+use Rattle.cga_forest.specs.NodeChange.{is_listed}
 use Rattle.cga_forest.specs.View.{kids, flag_if}
 use Rattle.cga_forest.specs.Tree.{under, stay_of}
 pub use Rattle.cga_fraction.proofs.Door.{or-false as or_false}
@@ -106,8 +106,8 @@ flag_one old now new test k so_far here others c = elim (eq_or_ne c k) [
 ]
 
 -- one node more of a list
-pub listed_more : (list : List Moved) (i c : ℕ) (m : Moved) → i < length list → m ≡ get_or list i m
+pub listed_more : (list : List NodeChange) (i c : ℕ) (m : NodeChange) → i < length list → m ≡ get_or list i m
     → (is_listed (take i list) c || nat_eq m.id c) ≡ is_listed (take (i + 1) list) c
 listed_more list i c m here is =
-    ap (λ (x : Moved). is_listed (take i list) c || nat_eq x.id c) is
-    ∙ sym (list_any_more (λ (x : Moved). nat_eq x.id c) list i m here)
+    ap (λ (x : NodeChange). is_listed (take i list) c || nat_eq x.id c) is
+    ∙ sym (list_any_more (λ (x : NodeChange). nat_eq x.id c) list i m here)

@@ -2,16 +2,16 @@
 use Rattle.std.specs.Prelude.{ℕ, zero, suc, List, [], ◌∷◌, ◌++◌, Option, Some, None, Bool, true, not, nat_eq, slice_get, if◌then◌else◌}
 use Rattle.std.specs.List.{flat_map}
 use Rattle.cga_forest.specs.declared.slot_entry.SlotEntry.{SlotEntry}
-use Rattle.cga_forest.specs.declared.moved.Moved.{Moved}
+use Rattle.cga_forest.specs.declared.node_change.NodeChange.{NodeChange}
 use Rattle.cga_forest.specs.declared.node.Node.{Node}
-use Rattle.cga_forest.specs.Moved.{moved_node}
+use Rattle.cga_forest.specs.NodeChange.{moved_node}
 
-abbrev pub found_at : ℕ → Option SlotEntry → List Moved
+abbrev pub found_at : ℕ → Option SlotEntry → List NodeChange
 found_at c None = []
 found_at c (Some e) = moved_node c e.node ∷ []
 
 -- the nodes of the slots of these numbers
-abbrev pub found : (ℕ → Option SlotEntry) → List ℕ → List Moved
+abbrev pub found : (ℕ → Option SlotEntry) → List ℕ → List NodeChange
 found s ids = flat_map (λ c. found_at c (s c)) ids
 
 -- the node and, at most n levels in all, those below it

@@ -9,7 +9,7 @@ pub mod Tree
 pub mod Standing
 pub mod Placing
 pub mod Walked
-pub mod Moved
+pub mod NodeChange
 pub mod Gathered
 pub mod Laws
 pub mod Numbers

@@ -140,7 +140,7 @@ pub record IsPlaced (old now : ℕ → Option SlotEntry) (id depth : ℕ) (marki
   pub each : (i c : ℕ) → slice_get made i ≡ Some c
       → (w : Node) × (slice_get news i ≡ Some w) × IsPlacedChild old now id depth marking olds w i c
   pub rest : (c : ℕ) (e : SlotEntry) → old c ≡ Some e → now c ≡ Some e
-  pub came : (c : ℕ) → old c ≡ None → (now c ≡ None) ⊎ ((i : ℕ) × (slice_get made i ≡ Some c))
+  pub created : (c : ℕ) → old c ≡ None → (now c ≡ None) ⊎ ((i : ℕ) × (slice_get made i ≡ Some c))
 
 abbrev pub depth_at : Option SlotEntry → ℕ
 depth_at None = 0

@@ -25,7 +25,7 @@ kids (Some e) = e.children.items
 -- an entry that keeps nothing for a mark
 pub record IsPlain (e : SlotEntry) : Type 0 where
   pub here : e.aside ≡ false
-  pub old : e.came ≡ false
+  pub old : e.created ≡ false
   pub same : e.former ≡ None
   pub hulls : e.former_hulls ≡ None
 
@@ -92,7 +92,7 @@ present_of (Some e) = if e.aside then None else Some (seen e)
 
 abbrev pub marked_of : Option SlotEntry → Option Seen
 marked_of None = None
-marked_of (Some e) = if e.came then None else Some (seen (restored e e.former))
+marked_of (Some e) = if e.created then None else Some (seen (restored e e.former))
 
 -- their hulls
 abbrev pub hulls_of : Option SlotEntry → Option Hulls
@@ -101,14 +101,14 @@ hulls_of (Some e) = Some (hulls_known e.node e.hulls)
 
 abbrev pub marked_hulls_of : Option SlotEntry → Option Hulls
 marked_hulls_of None = None
-marked_hulls_of (Some e) = if e.came then None else Some (hulls_known e.node (former_hulls e.hulls e.former_hulls))
+marked_hulls_of (Some e) = if e.created then None else Some (hulls_known e.node (former_hulls e.hulls e.former_hulls))
 
 -- what is left of an entry once the mark is dropped, and once the marked node is put back
 abbrev pub settled_entry : SlotEntry → Option SlotEntry
-settled_entry e = if e.aside then None else Some (record e { came = false; touched = false; former = None; former_hulls = None })
+settled_entry e = if e.aside then None else Some (record e { created = false; touched = false; former = None; former_hulls = None })
 
 abbrev pub rolled_entry : SlotEntry → Option SlotEntry
-rolled_entry e = if e.came then None else Some (record (restored e e.former) { hulls = former_hulls e.hulls e.former_hulls; aside = false; came = false; touched = false; former = None; former_hulls = None })
+rolled_entry e = if e.created then None else Some (record (restored e e.former) { hulls = former_hulls e.hulls e.former_hulls; aside = false; created = false; touched = false; former = None; former_hulls = None })
 
 -- the same of a slot
 abbrev pub settled : Option SlotEntry → Option SlotEntry
@@ -132,7 +132,7 @@ rehulled h (Some k) = Some h
 -- whether what the entry was is to be kept for the mark, where it gets other content
 abbrev pub keeps_former : Bool → Option SlotEntry → Bool
 keeps_former marking None = false
-keeps_former marking (Some e) = marking && not e.came && not (is_some e.former)
+keeps_former marking (Some e) = marking && not e.created && not (is_some e.former)
 
 -- it has another state and other children, and keeps what it was for the mark, where there is a box for that
 pub record IsRewritten (marking has_box : Bool) (state : NodeState) (children : List ℕ) (x y : SlotEntry) : Type 0 where
@@ -160,6 +160,6 @@ pub record IsNewEntry (slot : Option SlotEntry) (above : Option ℕ) (content : 
   pub leaf : entry.children.items ≡ []
   pub hulls : entry.hulls ≡ Own content.asks
   pub shows : entry.aside ≡ false
-  pub comes : entry.came ≡ marking
+  pub comes : entry.created ≡ marking
   pub nothing : entry.former ≡ None
   pub no_hulls : entry.former_hulls ≡ None

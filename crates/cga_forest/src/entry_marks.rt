@@ -49,7 +49,7 @@ impl Marked for SlotEntry {
 
     /// False where the node was set aside.
     fn settle(&mut self) -> bool {
-        self.came = false;
+        self.created = false;
         self.touched = false;
         self.former = None;
         self.former_hulls = None;
@@ -58,9 +58,9 @@ impl Marked for SlotEntry {
 
     /// False where the node came after the mark.
     fn roll_back(&mut self) -> bool {
-        let came = self.came;
+        let created = self.created;
         self.aside = false;
-        self.came = false;
+        self.created = false;
         self.touched = false;
         if let Some(former) = self.former.take() {
             let former = former.into_inner();
@@ -70,7 +70,7 @@ impl Marked for SlotEntry {
         if let Some(hulls) = self.former_hulls.take() {
             self.hulls = hulls;
         }
-        !came
+        !created
     }
 
     ghost marks = { entry.marks };

@@ -107,7 +107,7 @@ impl Lasting for Forest {
     /// Whether a node was there at the mark. What stands below one that came since came since, too.
     fn lasts(&self, node: NodeId) -> bool {
         match self.store.get(node.number() as usize) {
-            Some(entry) => !entry.came,
+            Some(entry) => !entry.created,
             None => false,
         }
     }

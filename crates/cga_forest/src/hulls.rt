@@ -2,7 +2,7 @@
 ghost use Rattle.std.specs.Prelude.{IsSome, true, ◌≢◌, ◌≡◌, ◌<◌, ℕ, length, slice_get, Some, None, is_some};
 ghost use Rattle.cga_kept_hulls.specs.declared.hulls.Hulls.{Hulls};
 ghost use Rattle.cga_kept_hulls.specs.Hull.{at_hulls, holds_hulls, over, with_hulls};
-ghost use Rattle.cga_forest.specs.declared.hulls_due.HullsDue.TheVariants.{Moved};
+ghost use Rattle.cga_forest.specs.declared.hulls_due.HullsDue.TheVariants.{Changed};
 ghost use Rattle.cga_forest.specs.declared.slot_entry.SlotEntry.{SlotEntry as Kept};
 ghost use Rattle.cga_forest.specs.HullsDue.{HoldsAll, grown_of};
 ghost use Rattle.cga_forest.specs.Hull.{own_hulls};
@@ -65,7 +65,7 @@ fn next_hulls(store: &Store, id: usize, due: &HullsDue) -> Option<Hulls>
             Some(entry) => Some(entry.known_hulls().with(&Some(*grown))),
             None => None,
         },
-        HullsDue::All | HullsDue::Moved(_, _) => hulls_over(store, id),
+        HullsDue::All | HullsDue::Changed(_, _) => hulls_over(store, id),
     }
 }
 
@@ -98,11 +98,11 @@ fn some_hold(store: &Store, entry: &SlotEntry, place: usize, old: &Hulls) -> boo
 /// Whether a node's hulls are right still, though those of one child changed: where they hold the new ones, a few children
 /// tell it mostly, and the others needn't be looked at.
 fn are_kept(store: &Store, id: usize, due: &HullsDue, old: &Hulls) -> bool
-    ensures { result ≡ true → (place : ℕ) × (k : Hulls) × (due.now ≡ Moved place k) × (holds_hulls old.now k ≡ true) × ((e : Kept) → at store.now id ≡ Some e
+    ensures { result ≡ true → (place : ℕ) × (k : Hulls) × (due.now ≡ Changed place k) × (holds_hulls old.now k ≡ true) × ((e : Kept) → at store.now id ≡ Some e
         → holds_hulls (over (λ c. hulls_of (at store.now c)) (own_hulls e.node) e.children.items (length e.children.items)) old.now ≡ true) }
 {
     match due {
-        HullsDue::Moved(place, hulls) => match store.get(id) {
+        HullsDue::Changed(place, hulls) => match store.get(id) {
             Some(entry) => old.holds(hulls) && some_hold(store, entry, *place, old),
             None => false,
         },

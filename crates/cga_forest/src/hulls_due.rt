@@ -11,7 +11,7 @@ pub enum HullsDue {
     /// The hulls of one child alone changed, and grew to these.
     Grown(Hulls),
     /// Those of the child at this place alone changed, to these, and not by growing.
-    Moved(usize, Hulls),
+    Changed(usize, Hulls),
 }
 
 impl HullsDue {
@@ -22,7 +22,7 @@ impl HullsDue {
         if new.holds(old) {
             HullsDue::Grown(*new)
         } else {
-            HullsDue::Moved(place, *new)
+            HullsDue::Changed(place, *new)
         }
     }
 }

@@ -23,10 +23,10 @@ mod hulls_due;
 mod listing;
 mod lots;
 mod mark;
-mod moved;
 mod new_content;
 mod new_hulls;
 mod node;
+mod node_change;
 mod placing;
 mod plan;
 mod replacement;
@@ -42,7 +42,7 @@ ghost use Rattle.cga_order.specs.Seen.{chain_of};
 ghost use Rattle.cga_forest.specs.Node.{chain_kept};
 ghost use Rattle.cga_forest.specs.Count.{tally};
 ghost use Rattle.cga_forest.specs.View.{Seen, is_shown};
-ghost use Rattle.cga_forest.specs.Moved.{ListsMoved};
+ghost use Rattle.cga_forest.specs.NodeChange.{ListsOnlyIn};
 ghost use Rattle.cga_forest.specs.Numbers.{KeepsNumbers};
 ghost use Rattle.cga_forest.specs.Placing.{MayGrow, children_after, state_after};
 ghost use Rattle.cga_forest.specs.Tree.{ForestView, HasInner, content_of, above, IsLeastHull, IsLeastAsking, NoneAsks, Replaces, node_at, marked_at, KeepsMark};
@@ -58,8 +58,8 @@ use cga_shape::{Answers, Emitted, ShapeFault};
 use cga_word::Mode;
 pub use change::Change;
 use covering::cover_root;
-pub use moved::Moved;
 pub use node::{Node, NodeState};
+pub use node_change::NodeChange;
 use placing::{children_after, kind_after};
 use plan::Plan;
 use replacement::Replacement;
@@ -192,8 +192,8 @@ impl Forest {
         requires here { (e : Seen) × (node_at self.old node ≡ Some e) × MayGrow e outcome.now }
         ensures replaced { OnOk result ((e : Seen) → node_at self.old node ≡ Some e → Replaces (node_at self.old) (node_at self.new) node (state_after symbols.old e.node answers outcome.now) (children_after symbols.old e.node outcome.now)) }
         ensures unmarked { OnOk result ((c : ℕ) → node_at self.old c ≡ None → IsSome (node_at self.new c) → marked_at self.old c ≡ None) }
-        ensures went { IfOk result (λ change. ListsMoved (node_at self.old) (node_at self.new) change.went) }
-        ensures came { IfOk result (λ change. ListsMoved (node_at self.new) (node_at self.old) change.came) }
+        ensures removed { IfOk result (λ change. ListsOnlyIn (node_at self.old) (node_at self.new) change.removed) }
+        ensures created { IfOk result (λ change. ListsOnlyIn (node_at self.new) (node_at self.old) change.created) }
         ensures mark { KeepsMark self.old self.new }
         ensures numbers { KeepsNumbers self.old self.new }
         ensures mode { self.new.mode ≡ self.old.mode }
@@ -222,8 +222,8 @@ impl Forest {
         requires here { HasInner (node_at self.old id) state news.items }
         ensures replaced { OnOk result (Replaces (node_at self.old) (node_at self.new) id state news.items) }
         ensures unmarked { OnOk result ((c : ℕ) → node_at self.old c ≡ None → IsSome (node_at self.new c) → marked_at self.old c ≡ None) }
-        ensures went { IfOk result (λ change. ListsMoved (node_at self.old) (node_at self.new) change.went) }
-        ensures came { IfOk result (λ change. ListsMoved (node_at self.new) (node_at self.old) change.came) }
+        ensures removed { IfOk result (λ change. ListsOnlyIn (node_at self.old) (node_at self.new) change.removed) }
+        ensures created { IfOk result (λ change. ListsOnlyIn (node_at self.new) (node_at self.old) change.created) }
         ensures mark { KeepsMark self.old self.new }
         ensures numbers { KeepsNumbers self.old self.new }
         ensures mode { self.new.mode ≡ self.old.mode }
@@ -255,8 +255,8 @@ impl Forest {
             self.store.settle();
         }
         Ok(Change {
-            went: List::from_vec(plan.went),
-            came: List::from_vec(plan.came),
+            removed: List::from_vec(plan.removed),
+            created: List::from_vec(plan.created),
         })
     }
 }

@@ -4,17 +4,17 @@ ghost use Rattle.cga_forest.specs.View.{at, kids};
 ghost use Rattle.cga_forest.specs.Tree.{stay_of};
 ghost use Rattle.cga_forest.specs.Gathered.{below, coming, found, going, is_come};
 
-use crate::moved::Moved;
 use crate::node::Node;
+use crate::node_change::NodeChange;
 use crate::slots::{child_at, stays};
 use crate::store::{Store, child_count};
 use cga_fraction::NoMemory;
 
-fn list_one(store: &Store, id: usize, list: &mut Vec<Moved>) -> Result<(), NoMemory>
+fn list_one(store: &Store, id: usize, list: &mut Vec<NodeChange>) -> Result<(), NoMemory>
     ensures { OnOk result (list.new.items ≡ list.old.items ++ found (λ c. at store.now c) (id ∷ [])) }
 {
     if let Some(entry) = store.get(id) {
-        list.push(Moved::of(id, &entry.node))?;
+        list.push(NodeChange::of(id, &entry.node))?;
     }
     Ok(())
 }
@@ -24,7 +24,7 @@ pub fn list_below(
     store: &Store,
     id: usize,
     left: usize,
-    list: &mut Vec<Moved>,
+    list: &mut Vec<NodeChange>,
 ) -> Result<(), NoMemory>
     ensures { OnOk result (list.new.items ≡ list.old.items ++ found (λ c. at store.now c) (below (λ d. kids (at store.now d)) left id)) }
 {
@@ -45,7 +45,7 @@ pub fn list_going(
     id: usize,
     left: usize,
     news: &[Node],
-    list: &mut Vec<Moved>,
+    list: &mut Vec<NodeChange>,
 ) -> Result<(), NoMemory>
     ensures { OnOk result (list.new.items ≡ list.old.items ++ found (λ c. at store.now c) (going (λ d. kids (at store.now d)) left (λ k w. stay_of (at store.now k) w) (kids (at store.now id)) news.now (length (kids (at store.now id))))) }
 {
@@ -60,14 +60,14 @@ pub fn list_going(
 }
 
 /// Adds a node, if it is there. The room is there already.
-fn list_reserved(store: &Store, id: usize, list: &mut Vec<Moved>)
+fn list_reserved(store: &Store, id: usize, list: &mut Vec<NodeChange>)
     requires room { length list.old.items < list.old.cap }
     ensures items { list.new.items ≡ list.old.items ++ found (λ c. at store.now c) (id ∷ []) }
     ensures longer { length list.new.items ≤ length list.old.items + 1 }
     ensures cap { list.new.cap ≡ list.old.cap }
 {
     if let Some(entry) = store.get(id) {
-        list.push_reserved(Moved::of(id, &entry.node));
+        list.push_reserved(NodeChange::of(id, &entry.node));
     }
 }
 
@@ -82,7 +82,7 @@ fn comes(store: &Store, id: usize, place: usize, child: usize) -> bool
 }
 
 /// Adds those of a node's new children that are no old ones at their places. The room is there already.
-pub fn list_coming(store: &Store, id: usize, children: &[usize], list: &mut Vec<Moved>)
+pub fn list_coming(store: &Store, id: usize, children: &[usize], list: &mut Vec<NodeChange>)
     requires room { length list.old.items + length children.now ≤ list.old.cap }
     ensures { list.new.items ≡ list.old.items ++ found (λ c. at store.now c) (coming (kids (at store.now id)) children.now (length children.now)) }
 {

@@ -4,8 +4,8 @@ ghost use Rattle.cga_forest.specs.Tree.{stay_of};
 ghost use Rattle.cga_forest.specs.Gathered.{found, going};
 
 use crate::listing::list_going;
-use crate::moved::Moved;
 use crate::node::Node;
+use crate::node_change::NodeChange;
 use crate::store::Store;
 use cga_fraction::NoMemory;
 use std::alloc::Global;
@@ -14,9 +14,9 @@ use std::alloc::Global;
 #[derive(Drop)]
 pub struct Plan {
     /// The nodes that will go.
-    pub went: Vec<Moved>,
+    pub removed: Vec<NodeChange>,
     /// Room for those that will come.
-    pub came: Vec<Moved>,
+    pub created: Vec<NodeChange>,
 }
 
 impl Plan {
@@ -29,13 +29,13 @@ impl Plan {
         left: usize,
         news: &[Node],
     ) -> Result<Plan, NoMemory>
-        ensures went { IfOk result (λ plan. plan.went.items ≡ found (λ c. at store.now c) (going (λ d. kids (at store.now d)) left (λ k w. stay_of (at store.now k) w) (kids (at store.now id)) news.now (length (kids (at store.now id))))) }
-        ensures empty { IfOk result (λ plan. plan.came.items ≡ []) }
-        ensures room { IfOk result (λ plan. length news.now ≤ plan.came.cap) }
+        ensures removed { IfOk result (λ plan. plan.removed.items ≡ found (λ c. at store.now c) (going (λ d. kids (at store.now d)) left (λ k w. stay_of (at store.now k) w) (kids (at store.now id)) news.now (length (kids (at store.now id))))) }
+        ensures empty { IfOk result (λ plan. plan.created.items ≡ []) }
+        ensures room { IfOk result (λ plan. length news.now ≤ plan.created.cap) }
     {
-        let mut went = Vec::new(alloc);
-        list_going(store, id, left, news, &mut went)?;
-        let came = Vec::with_capacity(alloc, news.len())?;
-        Ok(Plan { went, came })
+        let mut removed = Vec::new(alloc);
+        list_going(store, id, left, news, &mut removed)?;
+        let created = Vec::with_capacity(alloc, news.len())?;
+        Ok(Plan { removed, created })
     }
 }

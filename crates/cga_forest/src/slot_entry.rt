@@ -14,7 +14,7 @@ pub struct SlotEntry {
     pub children: Vec<usize>,
     pub hulls: KeptHulls,
     pub aside: bool,
-    pub came: bool,
+    pub created: bool,
     pub touched: bool,
     pub former: Option<FormerBox>,
     pub former_hulls: Option<KeptHulls>,
@@ -41,7 +41,7 @@ impl SlotEntry {
     pub fn keeps_former(&self, marking: bool) -> bool
         ensures { result ≡ keeps_former marking (Some self.now) }
     {
-        marking && !self.came && self.former.is_none()
+        marking && !self.created && self.former.is_none()
     }
 
     /// Takes no memory but the spare box, which is there where what it was is to be kept.
@@ -82,7 +82,7 @@ impl SlotEntry {
     {
         let kept = KeptHulls::Other(spare.filled(hulls));
         let former = std::mem::replace(&mut self.hulls, kept);
-        if marking && !self.came && self.former_hulls.is_none() {
+        if marking && !self.created && self.former_hulls.is_none() {
             self.former_hulls = Some(former);
         }
     }

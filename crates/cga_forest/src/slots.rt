@@ -4,14 +4,14 @@ ghost use Rattle.cga_forest.specs.View.{Seen, at, HasRoom, KeepsRoom, present_of
 ghost use Rattle.cga_forest.specs.Tree.{IsWhole, HasInner, ReplacedBy, IsAt, IsPlaced, depth_at, parent_of, under, goes, stay_of, stay_child};
 ghost use Rattle.cga_forest.specs.declared.node.Node.{Node};
 ghost use Rattle.cga_forest.specs.Gathered.{coming, found};
-ghost use Rattle.cga_forest.specs.Moved.{is_listed};
+ghost use Rattle.cga_forest.specs.NodeChange.{is_listed};
 ghost use Rattle.cga_forest.specs.Numbers.{StaysTaken};
 
 use crate::hulls::refresh;
 use crate::hulls_due::HullsDue;
 use crate::listing::list_coming;
-use crate::moved::Moved;
 use crate::node::Node;
+use crate::node_change::NodeChange;
 use crate::plan::Plan;
 use crate::replacement::Replacement;
 use crate::store::{Store, add_node, child_count, flag, rewrite};
@@ -65,7 +65,7 @@ pub fn stays(store: &Store, child: usize, news: &[Node], place: usize) -> bool
 }
 
 /// Sets aside the nodes of a list.
-fn set_aside_all(store: &mut Store, list: &[Moved])
+fn set_aside_all(store: &mut Store, list: &[NodeChange])
     ensures pointwise { (c : ℕ) → at store.new c ≡ flag_if (is_listed list.now c) (at store.old c) }
     ensures room { KeepsRoom store.old store.new }
 {
@@ -147,8 +147,8 @@ pub fn replace(
     plan: &mut Plan,
 ) -> Option<usize>
     requires room { HasRoom store.old (length new.news.items) }
-    requires listed { length plan.old.came.items + length new.news.items ≤ plan.old.came.cap }
-    requires went { (c : ℕ) → is_listed plan.old.went.items c ≡ goes (λ d. kids (at store.old d)) (MOST_DEPTH - depth_at (at store.old id)) (λ k w. stay_of (at store.old k) w) (kids (at store.old id)) new.news.items (length (kids (at store.old id))) c }
+    requires listed { length plan.old.created.items + length new.news.items ≤ plan.old.created.cap }
+    requires removed { (c : ℕ) → is_listed plan.old.removed.items c ≡ goes (λ d. kids (at store.old d)) (MOST_DEPTH - depth_at (at store.old id)) (λ k w. stay_of (at store.old k) w) (kids (at store.old id)) new.news.items (length (kids (at store.old id))) c }
     requires empty { new.made.items ≡ [] }
     requires space { length new.news.items ≤ new.made.cap }
     requires whole { IsWhole (λ c. present_of (at store.old c)) (λ c. hulls_of (at store.old c)) }
@@ -162,8 +162,8 @@ pub fn replace(
     ensures marked { marking ≡ true → (c : ℕ) → marked_of (at store.new c) ≡ marked_of (at store.old c) }
     ensures marked_hulls { marking ≡ true → (c : ℕ) → marked_hulls_of (at store.new c) ≡ marked_hulls_of (at store.old c) }
     ensures others { (c : ℕ) (d : Seen) → present_of (at store.old c) ≡ Some d → d.parent ≡ None → result ≢ Some c → hulls_of (at store.new c) ≡ hulls_of (at store.old c) }
-    ensures went { plan.new.went.items ≡ plan.old.went.items }
-    ensures came { plan.new.came.items ≡ plan.old.came.items ++ found (λ c. at store.new c) (coming (kids (at store.old id)) (kids (at store.new id)) (length (kids (at store.new id)))) }
+    ensures removed { plan.new.removed.items ≡ plan.old.removed.items }
+    ensures created { plan.new.created.items ≡ plan.old.created.items ++ found (λ c. at store.new c) (coming (kids (at store.old id)) (kids (at store.new id)) (length (kids (at store.new id)))) }
 {
     let Replacement {
         state,
@@ -171,9 +171,9 @@ pub fn replace(
         mut made,
         spare,
     } = new;
-    set_aside_all(store, plan.went.as_slice());
+    set_aside_all(store, plan.removed.as_slice());
     place_children(store, alloc, id, marking, news, &mut made);
-    list_coming(store, id, made.as_slice(), &mut plan.came);
+    list_coming(store, id, made.as_slice(), &mut plan.created);
     rewrite(store, id, marking, state, made, spare);
     refresh(store, spares, id, marking, HullsDue::All)
 }

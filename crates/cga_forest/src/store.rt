@@ -35,7 +35,7 @@ pub fn add_node(
         children: Vec::new(alloc),
         hulls,
         aside: false,
-        came: marking,
+        created: marking,
         touched: marking,
         former: None,
         former_hulls: None,

@@ -10,7 +10,7 @@ use Rattle.cga_top.specs.Output.{effect_of_all, output_of}
 use Rattle.cga_top.specs.Replies.{effect}
 use Rattle.cga_top.specs.State.{State, start}
 use Rattle.cga_top.specs.Talks.{SaysAll, SaysSome, TalkMeans, TalksAll, TalksLines, TalksPrefix}
-use Rattle.cga_top.specs.Turns.{HaveChanged, Turn, end_of}
+use Rattle.cga_top.specs.Turns.{HaveChanged, LineChanges, end_of}
 use Rattle.cga_words.specs.declared.status.Status.{Status}
 use Rattle.cga_words.specs.declared.status.Status.TheVariants.{Done, NoMemory, ReadFault, TooLong, Usage, WriteFault}
 use Rattle.cga_live.proofs.Balanced.{IsUnbegun, line_balances, start_unbegun, still_unbegun}
@@ -18,14 +18,14 @@ use Rattle.cga_live.proofs.Turns.{follows, replies_all}
 use Rattle.cga_live.specs.Live.{AreTold, IsLiveOf, replies_of, text_of}
 use Rattle.cga_live.specs.Means.{LiveMeans, TellsAll, TellsLines, TellsPrefix, TellsSome}
 
-told_all : (s : State) → IsUnbegun s → (turns : List Turn) → HaveChanged s turns → AreTold s turns
+told_all : (s : State) → IsUnbegun s → (turns : List LineChanges) → HaveChanged s turns → AreTold s turns
 told_all s un [] p = tt
 told_all s un (turn ∷ turns) p = (
   record { changed = p.0; balance = line_balances s turn.line un turn.changes p.0 },
   told_all (effect s turn.line).state (still_unbegun s turn.line un) turns p.1,
 )
 
-told_start : (d : ℕ) (turns : List Turn) → HaveChanged (start d) turns → AreTold (start d) turns
+told_start : (d : ℕ) (turns : List LineChanges) → HaveChanged (start d) turns → AreTold (start d) turns
 told_start d turns p = told_all (start d) (start_unbegun d) turns p
 
 live_of : (d : ℕ) (bytes : List ℕ) (a c : Option (List ℕ)) → SaysAll delta_text_of d bytes a c

@@ -12,7 +12,7 @@ use Rattle.cga_top.specs.Reads.{limit, read_limit}
 use Rattle.cga_top.specs.Lived.{behind_all}
 use Rattle.cga_top.specs.State.{start}
 use Rattle.cga_top.specs.Statuses.{Spent}
-use Rattle.cga_top.specs.Turns.{Turn, all_lines, end_of, lines_in}
+use Rattle.cga_top.specs.Turns.{LineChanges, all_lines, end_of, lines_in}
 use Rattle.cga_live.specs.Live.{AreTold, IsLiveOf, text_of}
 
 -- the script is within the limit, and all of it was replied to and told
@@ -26,7 +26,7 @@ pub record TellsAll (decimals : ℕ) (bytes : List ℕ) (old new : Outside) : Ty
 -- of the script so much was given, and the lines within the limit were replied to and told
 pub record TellsLines (decimals : ℕ) (read : List ℕ) (old new : Outside) : Type 0 where
   pub gave : Gave read old new
-  pub turns : List Turn
+  pub turns : List LineChanges
   pub lines : lines_in turns ≡ lines_of (take limit read)
   pub told : AreTold (start decimals) turns
   pub written : Appends old.held new.held (text_of (start decimals) turns)
@@ -34,7 +34,7 @@ pub record TellsLines (decimals : ℕ) (read : List ℕ) (old new : Outside) : T
 
 -- what was written begins what is told of the script's first lines, and of its end where no line is left
 pub record TellsSome (decimals : ℕ) (bytes : List ℕ) (old new : Outside) : Type 0 where
-  pub turns : List Turn
+  pub turns : List LineChanges
   pub left : List Line
   pub lines : lines_in turns ++ left ≡ all_lines bytes
   pub told : AreTold (start decimals) turns

@@ -10,7 +10,7 @@ use Rattle.std.proofs.lemmas.Option.{get_or_from_slice_get}
 use Rattle.indexmap.specs.IndexMap.{insert_entry}
 use Rattle.indexmap.specs.Layout.{length-set_value_at}
 use Rattle.cga_marked.specs.declared.step.Step.{Step}
-use Rattle.cga_marked.specs.declared.step.Step.TheVariants.{Came, Went}
+use Rattle.cga_marked.specs.declared.step.Step.TheVariants.{Created, Removed}
 use Rattle.cga_marked.specs.Map.{KeepsPlaces, Named, Shelf, IsUndoable, AreUndoable, listed, names, ids, put_back, same_name, undo, undone}
 use Rattle.cga_marked.proofs.Swaps.{swap_kept, swap_twice, take_brought, take_swap, brought_out}
 use Rattle.cga_marked.proofs.Names.{IsPut, is_put, place_after, at_front, front_at}
@@ -44,17 +44,17 @@ noted_ready xs x old new h can ready = undoable_push xs x new (subst (AreUndoabl
 
 -- the names that are there lie within the entries, also once a step is taken back
 undo_within : (x : Step) (s : Shelf) → IsUndoable x s → (undo x s).shown ≤ length (undo x s).entries
-undo_within (Came place None gap) s h =
+undo_within (Created place None gap) s h =
     let m = length-swap s.entries gap (s.shown - 1) in
     let n = length-swap (swap s.entries gap (s.shown - 1)) (s.shown - 1) place in
     let l = length-take-le (length (swap (swap s.entries gap (s.shown - 1)) (s.shown - 1) place) - 1) (swap (swap s.entries gap (s.shown - 1)) (s.shown - 1) place) (omega arith) in
     let a = h.1 in let b = h.2 in omega (arith, m, n, l, a, b)
-undo_within (Came place (Some id) gap) s h =
+undo_within (Created place (Some id) gap) s h =
     let m = length-swap s.entries gap (s.shown - 1) in
     let n = length-swap (swap s.entries gap (s.shown - 1)) (s.shown - 1) place in
     let l = length-set_value_at (swap (swap s.entries gap (s.shown - 1)) (s.shown - 1) place) place id in
     let a = h.1 in let b = h.2 in omega (arith, m, n, l, a, b)
-undo_within (Went place) s h =
+undo_within (Removed place) s h =
     let n = length-swap s.entries place s.shown in
     let b = h.1 in omega (arith, n, b)
 
@@ -106,7 +106,7 @@ module _ (s : Shelf) (put : Named) (name : List ℕ) (id place : ℕ) (former : 
       take_swap brought (s.shown + 1) gap s.shown (name, id) (omega (arith, low)) (omega arith) (omega (arith, long))
       ∙ ap (λ l. swap l gap s.shown) (take_brought put s.shown place (name, id) c.behind c.stands.within (sym (get_or_from_slice_get put place (name, id) (name, id) c.stands.here)) ∙ ap (λ l. l ++ (name, id) ∷ []) (c.stands.front s.shown c.behind))
 
-  push_undone : undo (Came place former gap) pushed_shelf ≡ s
+  push_undone : undo (Created place former gap) pushed_shelf ≡ s
   push_undone =
       let less : s.shown + 1 - 1 ≡ s.shown = omega arith in
       let w = c.stands.within in
@@ -115,7 +115,7 @@ module _ (s : Shelf) (put : Named) (name : List ℕ) (id place : ℕ) (former : 
       ∙ ap (put_back former place) (swap_twice put s.shown place (let a = c.behind in omega (arith, w, a)) w) ∙ c.stands.back in
       λ i. record { entries = same i; shown = less i }
 
-  push_undoable : IsUndoable (Came place former gap) pushed_shelf
+  push_undoable : IsUndoable (Created place former gap) pushed_shelf
   push_undoable =
       let n = length-swap put s.shown place in
       let m = length-swap brought gap s.shown in
@@ -124,7 +124,7 @@ module _ (s : Shelf) (put : Named) (name : List ℕ) (id place : ℕ) (former : 
       (omega (arith, low), omega (arith, a), omega (arith, n, m, w), λ none. c.stands.last none ∙ sym n ∙ sym m)
 
   pub pushed : (steps : List Step) → AreUndoable steps s
-      → IsNoted s pushed_shelf steps (steps ++ Came place former gap ∷ [])
+      → IsNoted s pushed_shelf steps (steps ++ Created place former gap ∷ [])
       × (take (s.shown + 1) filled ≡ swap (listed s ++ (name, id) ∷ []) gap s.shown)
   pushed steps ready =
       let n = length-swap put s.shown place in
@@ -133,8 +133,8 @@ module _ (s : Shelf) (put : Named) (name : List ℕ) (id place : ℕ) (former : 
       let a = c.behind in (
         record {
           within = omega (arith, n, m, w, a);
-          ready = noted_ready steps (Came place former gap) s pushed_shelf push_undone push_undoable ready;
-          former = noted steps (Came place former gap) s pushed_shelf push_undone;
+          ready = noted_ready steps (Created place former gap) s pushed_shelf push_undone push_undoable ready;
+          former = noted steps (Created place former gap) s pushed_shelf push_undone;
         },
         push_listed,
       )
@@ -158,12 +158,12 @@ module _ (es : Named) (shown i : ℕ) (name : List ℕ) (c : ℕ) (lt : i < show
       let low = f.0 in
       front_at es shown k e (omega (arith, low)) (swap_kept es i (shown - 1) k e (omega (arith, lt, within)) (omega (arith, lt, within)) n (λ q. absurd (omega (arith, low, q))) f.1)
 
-  pub out_undone : undo (Went i) (record { entries = left; shown = shown - 1 }) ≡ record { entries = es; shown = shown }
+  pub out_undone : undo (Removed i) (record { entries = left; shown = shown - 1 }) ≡ record { entries = es; shown = shown }
   out_undone =
       let same = swap_twice es i (shown - 1) (omega (arith, lt, within)) (omega (arith, lt, within)) in
       λ k. record { entries = same k; shown = more k }
 
-  pub out_undoable : IsUndoable (Went i) (record { entries = left; shown = shown - 1 })
+  pub out_undoable : IsUndoable (Removed i) (record { entries = left; shown = shown - 1 })
   out_undoable = let n = length-swap es i (shown - 1) in (omega (arith, lt), omega (arith, n, lt, within))
 
 -- ---- the ids of the first so many
@@ -203,7 +203,7 @@ no_steps_listed xs s e = ap listed (no_steps xs s e)
 
 pub taken_out : (es new : Named) (shown i : ℕ) (name : List ℕ) (c : ℕ) (steps more : List Step)
     → shown ≤ length es → slice_get (take shown es) i ≡ Some (name, c) → new ≡ swap es i (shown - 1)
-    → AreUndoable steps (record { entries = es; shown = shown }) → more ≡ steps ++ Went i ∷ []
+    → AreUndoable steps (record { entries = es; shown = shown }) → more ≡ steps ++ Removed i ∷ []
     → IsNoted (record { entries = es; shown = shown }) (record { entries = new; shown = shown - 1 }) steps more
     × IsPermutation (take shown es) ((name, c) ∷ take (shown - 1) new)
     × KeepsPlaces i (take shown es) (take (shown - 1) new)
@@ -214,8 +214,8 @@ taken_out es new shown i name c steps more within at moved ready noting =
     rw (moved, noting) (
       record {
         within = omega (arith, n, within);
-        ready = noted_ready steps (Went i) (record { entries = es; shown = shown }) (record { entries = swap es i (shown - 1); shown = shown - 1 }) back (out_undoable es shown i name c f.0 within f.1) ready;
-        former = noted steps (Went i) (record { entries = es; shown = shown }) (record { entries = swap es i (shown - 1); shown = shown - 1 }) back;
+        ready = noted_ready steps (Removed i) (record { entries = es; shown = shown }) (record { entries = swap es i (shown - 1); shown = shown - 1 }) back (out_undoable es shown i name c f.0 within f.1) ready;
+        former = noted steps (Removed i) (record { entries = es; shown = shown }) (record { entries = swap es i (shown - 1); shown = shown - 1 }) back;
       },
       out_listed es shown i name c f.0 within f.1,
       out_kept es shown i name c f.0 within f.1,
@@ -223,8 +223,8 @@ taken_out es new shown i name c steps more within at moved ready noting =
 
 -- each step back brings at most one name
 undo_room : (x : Step) (s : Shelf) → (undo x s).shown ≤ s.shown + 1
-undo_room (Came place former gap) s = omega arith
-undo_room (Went place) s = omega arith
+undo_room (Created place former gap) s = omega arith
+undo_room (Removed place) s = omega arith
 
 pub undone_room : (xs : List Step) (s : Shelf) → (undone xs s).shown ≤ s.shown + length xs
 unfolding undone

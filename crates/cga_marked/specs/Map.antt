@@ -7,7 +7,7 @@ use Rattle.indexmap.specs.IndexMap.{set_value_at}
 use lib.Pointwise.{pointwise}
 use Rattle.std.specs.Prelude.{Bool, nat_eq}
 use Rattle.cga_marked.specs.declared.step.Step.{Step}
-use Rattle.cga_marked.specs.declared.step.Step.TheVariants.{Came, Went}
+use Rattle.cga_marked.specs.declared.step.Step.TheVariants.{Created, Removed}
 
 abbrev pub same_name : List ℕ → List ℕ → Bool
 same_name = pointwise nat_eq
@@ -49,8 +49,8 @@ put_back (Some id) place entries = set_value_at entries place id
 
 -- a step taken back
 abbrev pub undo : Step → Shelf → Shelf
-undo (Came place former gap) s = record { entries = put_back former place (swap (swap s.entries gap (s.shown - 1)) (s.shown - 1) place); shown = s.shown - 1 }
-undo (Went place) s = record { entries = swap s.entries place s.shown; shown = s.shown + 1 }
+undo (Created place former gap) s = record { entries = put_back former place (swap (swap s.entries gap (s.shown - 1)) (s.shown - 1) place); shown = s.shown - 1 }
+undo (Removed place) s = record { entries = swap s.entries place s.shown; shown = s.shown + 1 }
 
 -- all taken back, the last one first
 unfoldable pub undone : List Step → Shelf → Shelf
@@ -59,8 +59,8 @@ undone (x ∷ xs) s = undo x (undone xs s)
 
 -- the step can be taken back
 abbrev pub IsUndoable : Step → Shelf → Type 0
-IsUndoable (Came place former gap) s = (gap < s.shown) × (s.shown ≤ place + 1) × (place < length s.entries) × (former ≡ None → place + 1 ≡ length s.entries)
-IsUndoable (Went place) s = (place ≤ s.shown) × (s.shown < length s.entries)
+IsUndoable (Created place former gap) s = (gap < s.shown) × (s.shown ≤ place + 1) × (place < length s.entries) × (former ≡ None → place + 1 ≡ length s.entries)
+IsUndoable (Removed place) s = (place ≤ s.shown) × (s.shown < length s.entries)
 
 -- one after the other
 unfoldable pub AreUndoable : List Step → Shelf → Type 0

@@ -109,7 +109,8 @@ impl MarkedMap {
         self.map.swap_indices(self.shown, place);
         self.map.swap_indices(gap, self.shown);
         self.shown += 1;
-        self.steps.push_reserved(Step::Came { place, former, gap });
+        self.steps
+            .push_reserved(Step::Created { place, former, gap });
         gap
     }
 
@@ -127,7 +128,7 @@ impl MarkedMap {
             Some((place, id)) => {
                 self.shown -= 1;
                 self.map.swap_indices(place, self.shown);
-                self.steps.push_reserved(Step::Went { place });
+                self.steps.push_reserved(Step::Removed { place });
                 Some((place, id))
             }
             None => None,
@@ -169,7 +170,7 @@ fn gap_of(steps: &[Step], end: usize) -> usize
     ensures { result ≤ end }
 {
     match steps.last() {
-        Some(Step::Went { place }) => { if *place < end { *place } else { end } }
+        Some(Step::Removed { place }) => { if *place < end { *place } else { end } }
         _ => end,
     }
 }
@@ -181,13 +182,13 @@ fn take_back(map: &mut IndexMap<Name, usize>, shown: usize, step: Step) -> usize
 {
     let _entries = map.len(); // for the proof
     match step {
-        Step::Came { place, former, gap } => {
+        Step::Created { place, former, gap } => {
             map.swap_indices(gap, shown - 1);
             map.swap_indices(shown - 1, place);
             put_back(map, place, former);
             shown - 1
         }
-        Step::Went { place } => {
+        Step::Removed { place } => {
             map.swap_indices(place, shown);
             shown + 1
         }

@@ -2,13 +2,13 @@
 #[derive(Clone, Copy, Debug)]
 pub enum Step {
     /// A name came, which had this former id since the mark or before, and stands in the gap.
-    Came {
+    Created {
         place: usize,
         former: Option<usize>,
         gap: usize,
     },
     /// A name went from this place.
-    Went {
+    Removed {
         place: usize,
     },
 }

@@ -174,16 +174,16 @@ told_split : (c : Changes) → All IsNamed c.gone → All IsNamed c.come
 unfolding told_text
 told_split c h k =
     let first = header (length c.gone) (length c.come) in
-    let went = flat_map (line_text minus) c.gone in
-    let came = flat_map (line_text plus) c.come in
+    let removed = flat_map (line_text minus) c.gone in
+    let created = flat_map (line_text plus) c.come in
     let one = map (signed_line minus) c.gone in
     let two = map (signed_line plus) c.come in
-    ap (slice_split ends) (append_assoc first went came)
-    ∙ header_split (length c.gone) (length c.come) (went ++ came)
+    ap (slice_split ends) (append_assoc first removed created)
+    ∙ header_split (length c.gone) (length c.come) (removed ++ created)
     ∙ ap (λ (l : List (List ℕ)). header_line (length c.gone) (length c.come) ∷ l)
-    (lines_split minus (lacks_by other 10 refl minus refl) c.gone h came
+    (lines_split minus (lacks_by other 10 refl minus refl) c.gone h created
     ∙ ap (λ (l : List (List ℕ)). one ++ l)
-    (ap (slice_split ends) (sym (append-nil came)) ∙ lines_split plus (lacks_by other 10 refl plus refl) c.come k [])
+    (ap (slice_split ends) (sym (append-nil created)) ∙ lines_split plus (lacks_by other 10 refl plus refl) c.come k [])
     ∙ sym (append_assoc one two ([] ∷ [])))
 
 by_some : (gone come : List Drawn) (text : List ℕ) (lines : List (List ℕ)) → slice_split ends text ≡ lines ++ [] ∷ []

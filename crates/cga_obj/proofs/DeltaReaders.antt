@@ -92,13 +92,13 @@ module _ (old new : List Drawn) (c : Changes) (leads : LeadsTo old new c) (mine 
 
   told : IsSomeAnd (read_lines (told_lines c) mine) (λ now. Has now new)
   told =
-      let came-lines = map (signed_line plus) c.come in
-      let went = goes came-lines c.gone mine there in
-      let came = comes c.come went.0 in
-      let whole : read_lines (told_lines c) mine ≡ Some came.0 = went.1 ∙ came.1 in
+      let created-lines = map (signed_line plus) c.come in
+      let removed = goes created-lines c.gone mine there in
+      let created = comes c.come removed.0 in
+      let whole : read_lines (told_lines c) mine ≡ Some created.0 = removed.1 ∙ created.1 in
       subst (λ (o : Option Having). IsSomeAnd o (λ now. Has now new)) (sym whole)
       (λ line.
-      let a = has line in let b = went.2 line in let e = came.2 line in
+      let a = has line in let b = removed.2 line in let e = created.2 line in
       let f = leads.balance (λ d. bytes_eq line (drawn_text d)) in
       omega (arith, a, b, e, f))
 

@@ -208,12 +208,12 @@ module _ {N A F P : Type 0} (world : World N A F P) (laws : IsWorld world) where
     made_on n (e, cs, has, made, child) = (e, cs, kept_done e has, sym (same_outcome e (good.done e s Done has (inl refl) step.waits)) ∙ made, child)
 
     own_outcome : HasOutcome D kind (outcome world C s)
-    own_outcome = by (outcome world C s) changes.came
+    own_outcome = by (outcome world C s) changes.created
       where
         by : (r : Result Members F) → ((n : N) (k : Kind F P) → Has (steps.children_of world r) n k → Has D n k)
             → HasOutcome D (steps.kind_after world r) r
-        by (Ok cs) came = (refl, λ c j i. (j, came c j i, refl, λ e. refl))
-        by (Err f) came = refl
+        by (Ok cs) created = (refl, λ c j i. (j, created c j i, refl, λ e. refl))
+        by (Err f) created = refl
 
     made_child : (c : N) (k : Kind F P) → Has children c k → IsMade world D c
     made_child c k h = by (outcome world C s) refl h

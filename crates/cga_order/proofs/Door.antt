@@ -19,7 +19,7 @@ pub use Rattle.cga_order.proofs.Once.{Among-append, Once-append, Once-index, cou
 -- Keys of one mode compare as their stamps
 pub use Rattle.cga_order.proofs.KeyAgrees.{agrees}
 -- In which order members stand in a configuration that was reached
-pub use Rattle.cga_order.proofs.Places.{came_from, slice_get-append, slice_get-map, slice_get-within, stands-reached}
+pub use Rattle.cga_order.proofs.Places.{created_from, slice_get-append, slice_get-map, slice_get-within, stands-reached}
 -- Prefixes of two paths, compared by where the paths part
 pub use Rattle.cga_order.proofs.Prefixes.{nat_cmp-less}
 -- Configurations that are reached are in order: their waiting members come after all that was done

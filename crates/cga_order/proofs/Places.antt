@@ -50,10 +50,10 @@ module _ {N A F P : Type 0} (world : World N A F P) (laws : IsWorld world) where
     child_at k m (Err f) e g = none_some m g
 
     -- a member of the new list was in the old at its place, or is a child
-    pub came_from : (i : ℕ) (m : Placed N F P) → slice_get D i ≡ Some m
+    pub created_from : (i : ℕ) (m : Placed N F P) → slice_get D i ≡ Some m
         → ((i < length C) × ((o : Placed N F P) × (slice_get C i ≡ Some o) × (o.shape ≡ m.shape)))
         ⊎ ((k : ℕ) × (i ≡ length C + k) × IsChild (world.chain s) k (world.chain m.shape))
-    came_from i m e =
+    created_from i m e =
         let size = length-map (become world s kind) C in
         elim (slice_get-append (map (become world s kind) C) (steps.children_of world (outcome world C s)) i m (subst (λ x. slice_get x i ≡ Some m) (step.told ∙ steps.told-is world C s (outcome world C s)) e)) [
           | inl h ↦
@@ -63,14 +63,14 @@ module _ {N A F P : Type 0} (world : World N A F P) (laws : IsWorld world) where
         ]
 
     stands-next : StandsByBirth world C → StandsByBirth world D
-    stands-next stands i j m n e f lt past = elim (came_from j n f) [
-      | inl there ↦ elim (came_from i m e) [
+    stands-next stands i j m n e f lt past = elim (created_from j n f) [
+      | inl there ↦ elim (created_from i m e) [
         | inl here ↦ alike here.1.0.shape m.shape there.1.0.shape n.shape here.1.2 there.1.2 (stands i j here.1.0 there.1.0 here.1.1 there.1.1 lt past)
         | inr here ↦ absurd (omega (arith, lt, there.0, here.1))
       ]
       | inr there ↦
           let birth = birth-child world.mode (world.chain s) there.0 (world.chain n.shape) (laws.whole s) there.2 in
-          elim (came_from i m e) [
+          elim (created_from i m e) [
             | inl here ↦
                 let made = good.born here.1.0.shape s here.1.0.kind (slice_get-Has C i here.1.0 here.1.1) step.waits in
                 inl (subst (λ b. IsEarlier world (birth_of world m.shape) b) (sym birth) (subst (λ x. IsEarlier world (birth_of world x) (stamp_of world s)) here.1.2 made))

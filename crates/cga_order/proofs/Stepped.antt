@@ -18,7 +18,7 @@ module _ {N A F P : Type 0} (world : World N A F P) where
         → ((SamePlace n s → ⊥) × Has C n k) ⊎ (((n ≡ s) × (k ≡ kind)) ⊎ Has children n k)
     pub to : (n : N) (k : Kind F P) → (SamePlace n s → ⊥) → Has C n k → Has D n k
     pub itself : Has D s kind
-    pub came : (n : N) (k : Kind F P) → Has children n k → Has D n k
+    pub created : (n : N) (k : Kind F P) → Has children n k → Has D n k
 
   -- the kind of a shape after its step, and the children that came
   abbrev pub kind_after : Result Members F → Kind F P

@@ -87,7 +87,7 @@ module _ {N A F P : Type 0} (world : World N A F P) where
           ];
           to = λ n k d h. subst (λ x. Has x n k) (sym is) (Has-left (map (become world s kind) C) cs n k (become-Has_elsewhere world s kind C n k d h));
           itself = subst (λ x. Has x s kind) (sym is) (Has-left (map (become world s kind) C) cs s kind (become-Has_there world s kind C Waiting step.waits));
-          came = λ n k h. subst (λ x. Has x n k) (sym is) (Has-right (map (become world s kind) C) cs n k h);
+          created = λ n k h. subst (λ x. Has x n k) (sym is) (Has-right (map (become world s kind) C) cs n k h);
         }
 
     -- the waiting shape of least rank has the least stamp

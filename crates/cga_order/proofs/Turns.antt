@@ -6,7 +6,7 @@ use Rattle.cga_order.specs.Chain.{IsChild}
 use Rattle.cga_order.specs.Stamp.{stamps_cmp}
 use Rattle.cga_order.specs.World.{World, IsWorld, Placed, Kind, Done, Has, Among, shapes_where, is_instance, place_of, stamp_of, birth_of, IsEarlier}
 use Rattle.cga_order.specs.Consistent.{exists_at, waits_at, outcome_at, Stands, IsBefore, HasOutcome, IsMade, IsConsistent}
-use Rattle.cga_order.specs.Agenda.{Node, members_of, Keeps, asked, HasChildren, IsSettled, IsRight, AllRight, Came, Remains, IsTurn, IsTree, IsNext, QueuesOnly, Worked}
+use Rattle.cga_order.specs.Agenda.{Node, members_of, Keeps, asked, HasChildren, IsSettled, IsRight, AllRight, Created, Remains, IsTurn, IsTree, IsNext, QueuesOnly, Worked}
 use Rattle.cga_order.specs.Run.{AllEarlier, Rises}
 use Rattle.cga_order.specs.Total.{stamps_total}
 use Rattle.cga_order.proofs.Chains.{birth-child, stamp-child, snoc-same}
@@ -73,15 +73,16 @@ module _ {N A F P : Type 0} (world : World N A F P) (laws : IsWorld world) where
         → IsEarlier world (birth_of world m) (stamp_of world n) → IsEarlier world (stamp_of world s) (stamp_of world n)
     across m n late e = stamps.past_left (stamps_cmp world.mode) order (stamp_of world s) (birth_of world m) (stamp_of world n) late e
 
-    came_late : (m : N) (k : Kind F P) → Came world after s m k requeued
+    created_late : (m : N) (k : Kind F P) → Created world after s m k requeued
         → IsEarlier world (birth_of world m) (stamp_of world s) → ⊥
-    came_late m k came e =
-        let birth = birth-child world.mode (world.chain s) came.0.0 (world.chain m) (laws.whole s) came.0.1 in
+    created_late m k created e =
+        let birth = birth-child world.mode (world.chain s) created.0.0 (world.chain m) (laws.whole s) created.0.1 in
         stamps.not_self (stamps_cmp world.mode) order (stamp_of world s) (subst (λ x. IsEarlier world x (stamp_of world s)) birth e)
 
     -- a node of the new list is s, or stayed, or came
     where_from : (m : N) (k : Kind F P) (a : A) → Keeps after m k a
-        → (m ≡ s) ⊎ ((place_of world m ≡ place_of world s → ⊥) × (Keeps before m k a ⊎ Came world after s m k requeued))
+        → (m ≡ s) ⊎
+        ((place_of world m ≡ place_of world s → ⊥) × (Keeps before m k a ⊎ Created world after s m k requeued))
     where_from m k a h = elim (place_dec world m s) [
       | inl same ↦ inl (turn.alone m k a h same)
       | inr apart ↦ inr (apart, turn.from m k a h (λ e. apart (ap (place_of world) e)))
@@ -102,7 +103,7 @@ module _ {N A F P : Type 0} (world : World N A F P) (laws : IsWorld world) where
         → SameAt n before after
     same_to n j b there y off m k a v e h = elim (turn.to m k a h) [
       | inl r ↦ remains m k r
-      | inr went ↦ let x : true ≡ false = sym (went.seen n j b there y (across m n went.late e) v) ∙ off in cc
+      | inr removed ↦ let x : true ≡ false = sym (removed.seen n j b there y (across m n removed.late e) v) ∙ off in cc
     ]
 
     same_from : (n : N) (j : Kind F P) (b : A) → Keeps after n j b → is_instance j ≡ false → requeued n ≡ false
@@ -111,18 +112,18 @@ module _ {N A F P : Type 0} (world : World N A F P) (laws : IsWorld world) where
       | inl q ↦ self_before m k a q h
       | inr w ↦ elim w.1 [
         | inl g ↦ (k, a, g, refl)
-        | inr came ↦ let x : true ≡ false = sym (came.2 n j b there y (across m n (came_late m k came) e) v) ∙ off in cc
+        | inr created ↦ let x : true ≡ false = sym (created.2 n j b there y (across m n (created_late m k created) e) v) ∙ off in cc
       ]
     ]
 
     -- s itself sees the same, since nothing that went or came exists at its stamp
     self_to : SameAt s before after
-    self_to m k a v e h = elim (turn.to m k a h) [ inl r ↦ remains m k r | inr went ↦ absurd (went.late e) ]
+    self_to m k a v e h = elim (turn.to m k a h) [ inl r ↦ remains m k r | inr removed ↦ absurd (removed.late e) ]
 
     self_from : SameAt s after before
     self_from m k a v e h = elim (where_from m k a h) [
       | inl q ↦ self_before m k a q h
-      | inr w ↦ elim w.1 [ inl g ↦ (k, a, g, refl) | inr came ↦ absurd (came_late m k came e) ]
+      | inr w ↦ elim w.1 [ inl g ↦ (k, a, g, refl) | inr created ↦ absurd (created_late m k created e) ]
     ]
 
     -- the children of a node other than s stay
@@ -136,7 +137,7 @@ module _ {N A F P : Type 0} (world : World N A F P) (laws : IsWorld world) where
         | inl q ↦ let w = self_before c j b q g in h.only c w.0 w.1 w.2 i child
         | inr w ↦ elim w.1 [
           | inl old ↦ h.only c j b old i child
-          | inr came ↦ absurd (apart (one_parent c i came.0.0 child came.0.1))
+          | inr created ↦ absurd (apart (one_parent c i created.0.0 child created.0.1))
         ]
       ];
     }
@@ -154,9 +155,9 @@ module _ {N A F P : Type 0} (world : World N A F P) (laws : IsWorld world) where
             let w = Keeps-Has before c old there in
             elim (turn.to c old w.0 w.1) [
               | inl r ↦ (r.0, Has-Keeps after c r.0 r.1 r.2, r.3 ∙ alike, λ i. r.4 (alike ∙ i) ∙ same i)
-              | inr went ↦
+              | inr removed ↦
                   let b = below c j g in
-                  elim (went.below m b.0 b.1) [ inl e ↦ absurd (apart e) | inr gone ↦ absurd (gone k a had has) ]
+                  elim (removed.below m b.0 b.1) [ inl e ↦ absurd (apart e) | inr gone ↦ absurd (gone k a had has) ]
             ]
 
     settled_stays : (m : N) (k : Kind F P) (a : A) → Keeps before m k a → Keeps after m k a
@@ -180,7 +181,7 @@ module _ {N A F P : Type 0} (world : World N A F P) (laws : IsWorld world) where
             | inr f ↦ inr (z.0 ∙ asks_same n before after (same_to n k a h y f) (same_from n k a h y f), settled_stays n k a old h w.0 (world.expand n a) refl z.1)
           ]
         ]
-        | inr came ↦ inl (came.1 y)
+        | inr created ↦ inl (created.1 y)
       ]
     ]
 

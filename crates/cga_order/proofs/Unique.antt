@@ -212,7 +212,7 @@ module _ {N A F P : Type 0} (world : World N A F P) (laws : IsWorld world) (limi
           | inr r ↦ elim r [
             | inl q ↦
                 let is : outcome world C s ≡ Ok cs = sym agree ∙ (ap (outcome_at world L) (sym q.0) ∙ made) in
-                (j, changes.came c j (subst (λ x. Has (steps.children_of world x) c j) (sym is) g))
+                (j, changes.created c j (subst (λ x. Has (steps.children_of world x) c j) (sym is) g))
             | inr k ↦ absurd ((steps.law world laws C D s good step e Done k).2 (inl refl))
           ]
         ];

@@ -61,15 +61,15 @@ module _ {N A F P : Type 0} (world : World N A F P) where
       → queued n ≡ true
 
   -- a node that came: a child of s, on the agenda unless it is an instance, as is what sees it
-  abbrev pub Came : Nodes → N → N → Kind F P → (N → Bool) → Type 0
-  Came after s m kind queued =
+  abbrev pub Created : Nodes → N → N → Kind F P → (N → Bool) → Type 0
+  Created after s m kind queued =
       ((i : ℕ) × IsChild (world.chain s) i (world.chain m))
       × (is_instance kind ≡ false → queued m ≡ true)
       × QueuesWhatSees after s m queued
 
   -- a node that went: made at the stamp of s or later, a child of s or of no node that stays, and
   -- what sees it is on the agenda
-  pub record Went (s m : N) (before after : Nodes) (queued : N → Bool) : Type 0 where
+  pub record Removed (s m : N) (before after : Nodes) (queued : N → Bool) : Type 0 where
     pub late : IsEarlier world (birth_of world m) (stamp_of world s) → ⊥
     pub below : (p : N) (i : ℕ) → IsChild (world.chain p) i (world.chain m)
         → (place_of world p ≡ place_of world s)
@@ -91,9 +91,9 @@ module _ {N A F P : Type 0} (world : World N A F P) where
         → place_of world n ≡ place_of world s → n ≡ s
     -- each other node stayed as it was, or came; and each that was there remains, or went
     pub from : (m : N) (k : Kind F P) (a : A) → Keeps after m k a → m ≢ s
-        → Keeps before m k a ⊎ Came after s m k requeued
+        → Keeps before m k a ⊎ Created after s m k requeued
     pub to : (m : N) (k : Kind F P) (a : A) → Keeps before m k a
-        → Remains after m k ⊎ Went s m before after requeued
+        → Remains after m k ⊎ Removed s m before after requeued
     -- nothing but s leaves the agenda
     pub queued_still : (m : N) (k : Kind F P) (a : A) → Keeps after m k a → is_instance k ≡ false → m ≢ s
         → queued m ≡ true → requeued m ≡ true

@@ -15,7 +15,7 @@ use Rattle.cga_order.specs.Key.{chain_of_key, key_cmp}
 use Rattle.cga_order.specs.KeyLaws.{key_total}
 use Rattle.cga_queue.specs.Agenda.{AgendaView, NamesNone, OfOneMode, IsPut, IsPopped}
 use Rattle.cga_queue.specs.Lines.{AllBehind, Rises, IsPutIn, IsTakenOut, counted, spare}
-use Rattle.cga_queue.proofs.Entries.{Takes, came_or_was}
+use Rattle.cga_queue.proofs.Entries.{Takes, created_or_was}
 use Rattle.cga_queue.proofs.TwoLines.{IsOut, PutsIn, among_either, counted_from, left_behind, puts_in, rises_after, rises_left, taken_out}
 
 abbrev Entries : Type 0
@@ -36,7 +36,7 @@ module _ (mode : Mode) where
     takes_mode k (inr h) = a k h.1.0 h.1.1
 
     map_own : OfOneMode mode (insert_entry key_cmp es key id)
-    map_own k i h = elim (came_or_was key_cmp key id es k i h) [ inl x ↦ takes_mode k x.1 | inr y ↦ a k i y ]
+    map_own k i h = elim (created_or_was key_cmp key id es k i h) [ inl x ↦ takes_mode k x.1 | inr y ↦ a k i y ]
 
     late_own : OfOneMode mode (ls ++ (key, id) ∷ [])
     late_own k i h = elim (among_either ls ((key, id) ∷ []) (k, i) h) [

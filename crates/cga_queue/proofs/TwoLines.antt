@@ -9,7 +9,7 @@ use Rattle.std.specs.Ordering.{is_eq}
 use Rattle.std.proofs.lemmas.Cmp.{tied_itself, tied_back}
 use Rattle.cga_order.specs.World.{Among}
 use Rattle.cga_queue.specs.Lines.{has_key, spare, counted, AllBefore, AllBehind, Rises, IsPutIn, IsTakenOut}
-use Rattle.cga_queue.proofs.Entries.{Takes, came_or_was, now_there, still_there}
+use Rattle.cga_queue.proofs.Entries.{Takes, created_or_was, now_there, still_there}
 use Rattle.cga_queue.proofs.OnIt.{any_from, any_to, is_eq_is}
 pub use Rattle.cga_fraction.proofs.Door.{true-not-false as true_false}
 
@@ -134,7 +134,7 @@ module _ {K X : Type 0} (cmp : K → K → Ordering) (o : IsTotalOrder cmp) wher
     has_new : (q : K) → has_key cmp more q ≡ true → (cmp k q ≡ Equal) ⊎ (has_key cmp es q ≡ true)
     has_new q h =
         let z = has_from more q h in
-        elim (came_or_was cmp k v es z.0.0 z.0.1 z.1) [
+        elim (created_or_was cmp k v es z.0.0 z.0.1 z.1) [
           | inl a ↦ inl (o.congr k z.0.0 q (taken_tied k es z.0.0 a.1) ∙ z.2)
           | inr b ↦ inr (has_to es q (z.0.0, z.0.1) b z.2)
         ]
@@ -152,7 +152,7 @@ module _ {K X : Type 0} (cmp : K → K → Ordering) (o : IsTotalOrder cmp) wher
             ] refl
       ];
       only = λ q i h. elim (among_either more (spare cmp more ls) (q, i) h) [
-        | inl a ↦ elim (came_or_was cmp k v es q i a) [ inl e ↦ inl (e.0, taken_tied k es q e.1) | inr t ↦ inr (among_first es (spare cmp es ls) (q, i) t) ]
+        | inl a ↦ elim (created_or_was cmp k v es q i a) [ inl e ↦ inl (e.0, taken_tied k es q e.1) | inr t ↦ inr (among_first es (spare cmp es ls) (q, i) t) ]
         | inr b ↦
             let z = spare_from more ls (q, i) b in
             elim (has_key cmp es q) as (λ b. has_key cmp es q ≡ b → ((i ≡ v) × (cmp k q ≡ Equal)) ⊎ Among (q, i) (counted cmp es ls)) [

@@ -10,7 +10,7 @@ use Rattle.cga_order.proofs.Door.{waits}
 use Rattle.cga_derivation.specs.Derivation.{Derivation, IsDerivation, NothingWaits, asked, next_of, place_of, reached}
 use Rattle.cga_derivation.proofs.Door.{apart-reached}
 use Rattle.cga_region.specs.Districts.{district}
-use Rattle.cga_region.proofs.Turns.{before_end, came, child_new, children_of, had_turn, kind_of, kind_plain, next_from, one_member, stands_later, taken_waits, turn_ends}
+use Rattle.cga_region.proofs.Turns.{before_end, created, child_new, children_of, had_turn, kind_of, kind_plain, next_from, one_member, stands_later, taken_waits, turn_ends}
 
 -- a turn of the first at a shape of this lot is one of the second, at the same place and with the same answers
 abbrev SameTurns : {N A F P : Type 0} → Derivation N A F P → Derivation N A F P → List ℕ → Type 0
@@ -40,7 +40,7 @@ module _ {N A F P : Type 0} (derivation : Derivation N A F P) (ones others : Lis
     abbrev SameTurn : ℕ → Placed N F P → Type 0
     SameTurn n m =
         (i : ℕ) × (t : Placed N F P) × (next_of Other (reached Other i) ≡ Some t) × (t.shape ≡ m.shape)
-        × (came Other other_laws i t ≡ came One laws n m) × (i < end)
+        × (created Other other_laws i t ≡ created One laws n m) × (i < end)
 
     same_turn : (n : ℕ) (m : Placed N F P) → next_of One (reached One n) ≡ Some m → derivation.lot m.shape ≡ lot
         → Stands ys m.shape Waiting → SameTurn n m
@@ -77,10 +77,10 @@ module _ {N A F P : Type 0} (derivation : Derivation N A F P) (ones others : Lis
           elim g.2 [
             | inl e ↦
                 let (j, has, alike, same) = stands_there n m.shape Waiting (ap derivation.lot e.0 ∙ own) (taken_waits One laws n m g.1) in
-                let plain : is_instance k ≡ false = ap is_instance e.1 ∙ kind_plain One (came One laws n m) in
+                let plain : is_instance k ≡ false = ap is_instance e.1 ∙ kind_plain One (created One laws n m) in
                 (j, subst (λ y. Has ys y j) e.0 has, alike ∙ sym plain, λ q. let no : true ≡ false = sym q ∙ plain in absurd (cc))
             | inr c ↦
-                let parent : derivation.lot m.shape ≡ lot = sym (child_new One laws n m (came One laws n m) refl x k c).0 ∙ own in
+                let parent : derivation.lot m.shape ≡ lot = sym (child_new One laws n m (created One laws n m) refl x k c).0 ∙ own in
                 let t = same_turn n m g.1 parent (stands_there n m.shape Waiting parent (taken_waits One laws n m g.1)) in
                 (turn_ends Other other_laws end t.0 t.1 t.2 t.5).1 x k (subst (λ r. Has (children_of r) x k) (sym t.4) c)
           ]
@@ -99,12 +99,12 @@ module _ {N A F P : Type 0} (derivation : Derivation N A F P) (ones others : Lis
                 let m = turn.1 in
                 let lots : derivation.lot m.shape ≡ lot = ap derivation.lot turn.3 ∙ own in
                 let first = (turn_ends One laws last turn.0 m turn.2 turn.4).0 in
-                let left = kind_of (came One laws turn.0 m) in
+                let left = kind_of (created One laws turn.0 m) in
                 let kind : k ≡ left = (one_member One (reached One last) (apart-reached One laws last) x m.shape k left h first (ap (place_of derivation) (sym turn.3))).1 in
                 let t = same_turn turn.0 m turn.2 lots (stands_there turn.0 m.shape Waiting lots (taken_waits One laws turn.0 m turn.2)) in
                 let there = (turn_ends Other other_laws end t.0 t.1 t.2 t.5).0 in
                 let shape : t.1.shape ≡ x = t.3 ∙ turn.3 in
-                let now : kind_of (came Other other_laws t.0 t.1) ≡ k = ap kind_of t.4 ∙ sym kind in
-                subst (Has ys x) now (subst (λ y. Has ys y (kind_of (came Other other_laws t.0 t.1))) shape there)
+                let now : kind_of (created Other other_laws t.0 t.1) ≡ k = ap kind_of t.4 ∙ sym kind in
+                subst (Has ys x) now (subst (λ y. Has ys y (kind_of (created Other other_laws t.0 t.1))) shape there)
           ]
         ]

@@ -26,7 +26,7 @@ each_row_is_so d e x s = record {
       (refl, λ f h. refl),
     ),
   );
-  came = refl;
+  created = refl;
   unled = λ h. let bad : false ≡ true = h (record e { lot = codes "b" }) (inr (inl refl)) in cc;
   back = refl;
   apart = refl;

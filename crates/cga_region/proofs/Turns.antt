@@ -111,12 +111,12 @@ module _ {N A F P : Type 0} (derivation : Derivation N A F P) where
         let kind = waiting_kind m.kind (both _ _ (first_of-passes (is_next derivation (reached derivation n)) (reached derivation n) m e)).0 in
         subst (Has (reached derivation n) m.shape) kind (first_of-Has (is_next derivation (reached derivation n)) (reached derivation n) m e)
 
-    abbrev pub came : ℕ → Placed N F P → Result Members F
-    came n m = outcome derivation (reached derivation n) m.shape
+    abbrev pub created : ℕ → Placed N F P → Result Members F
+    created n m = outcome derivation (reached derivation n) m.shape
 
     -- what a turn leaves
     turned : (n : ℕ) (m : Placed N F P) → next_of derivation (reached derivation n) ≡ Some m
-        → reached derivation (suc n) ≡ told derivation (reached derivation n) m.shape (came n m)
+        → reached derivation (suc n) ≡ told derivation (reached derivation n) m.shape (created n m)
     unfolding reached step
     turned n m e = ap (step_by derivation (reached derivation n)) e
 
@@ -138,10 +138,10 @@ module _ {N A F P : Type 0} (derivation : Derivation N A F P) where
         by (Some m) e = elim (either (same_place derivation x m.shape)) [
           | inl t ↦
               let one = one_member (reached derivation n) (apart-reached derivation laws n) x m.shape k Waiting h (taken_waits n m e) (same_place-is derivation x m.shape t) in
-              let now = kind_of (came n m) in
-              let there = told_left (reached derivation n) m.shape (came n m) x now (become_at m.shape now (reached derivation n) x k h t) in
-              inr (one.1, (now, subst (λ l. Has l x now) (sym (turned n m e)) there, kind_plain (came n m)))
-          | inr f ↦ inl (subst (λ l. Has l x k) (sym (turned n m e)) (told_left (reached derivation n) m.shape (came n m) x k (become_off m.shape (kind_of (came n m)) (reached derivation n) x k h f)))
+              let now = kind_of (created n m) in
+              let there = told_left (reached derivation n) m.shape (created n m) x now (become_at m.shape now (reached derivation n) x k h t) in
+              inr (one.1, (now, subst (λ l. Has l x now) (sym (turned n m e)) there, kind_plain (created n m)))
+          | inr f ↦ inl (subst (λ l. Has l x k) (sym (turned n m e)) (told_left (reached derivation n) m.shape (created n m) x k (become_off m.shape (kind_of (created n m)) (reached derivation n) x k h f)))
         ]
 
     -- so a member that doesn't wait stays
@@ -171,29 +171,29 @@ module _ {N A F P : Type 0} (derivation : Derivation N A F P) where
 
     -- where a turn leaves its shape and children
     pub turn_left : (n : ℕ) (m : Placed N F P) → next_of derivation (reached derivation n) ≡ Some m
-        → Has (reached derivation (suc n)) m.shape (kind_of (came n m))
-        × ((c : N) (k : Kind F P) → Has (children_of (came n m)) c k → Has (reached derivation (suc n)) c k)
+        → Has (reached derivation (suc n)) m.shape (kind_of (created n m))
+        × ((c : N) (k : Kind F P) → Has (children_of (created n m)) c k → Has (reached derivation (suc n)) c k)
     turn_left n m e =
-        let now = kind_of (came n m) in
+        let now = kind_of (created n m) in
         let there = become_at m.shape now (reached derivation n) m.shape Waiting (taken_waits n m e) (same_self m.shape) in (
-          subst (λ l. Has l m.shape now) (sym (turned n m e)) (told_left (reached derivation n) m.shape (came n m) m.shape now there),
-          λ c k h. subst (λ l. Has l c k) (sym (turned n m e)) (told_right (reached derivation n) m.shape (came n m) c k h),
+          subst (λ l. Has l m.shape now) (sym (turned n m e)) (told_left (reached derivation n) m.shape (created n m) m.shape now there),
+          λ c k h. subst (λ l. Has l c k) (sym (turned n m e)) (told_right (reached derivation n) m.shape (created n m) c k h),
         )
 
     -- where a member of the next configuration comes from
     pub next_from : (n : ℕ) (x : N) (k : Kind F P) → Has (reached derivation (suc n)) x k
         → Has (reached derivation n) x k
         ⊎ ((m : Placed N F P) × (next_of derivation (reached derivation n) ≡ Some m)
-        × (((m.shape ≡ x) × (k ≡ kind_of (came n m))) ⊎ Has (children_of (came n m)) x k))
+        × (((m.shape ≡ x) × (k ≡ kind_of (created n m))) ⊎ Has (children_of (created n m)) x k))
     next_from n x k h = by (next_of derivation (reached derivation n)) refl
       where
         by : (o : Option (Placed N F P)) → next_of derivation (reached derivation n) ≡ o
             → Has (reached derivation n) x k
             ⊎ ((m : Placed N F P) × (next_of derivation (reached derivation n) ≡ Some m)
-            × (((m.shape ≡ x) × (k ≡ kind_of (came n m))) ⊎ Has (children_of (came n m)) x k))
+            × (((m.shape ≡ x) × (k ≡ kind_of (created n m))) ⊎ Has (children_of (created n m)) x k))
         by None e = inl (subst (λ l. Has l x k) (quiet n e) h)
-        by (Some m) e = elim (told_from (reached derivation n) m.shape (came n m) x k (subst (λ l. Has l x k) (turned n m e) h)) [
-          | inl g ↦ elim (become_from m.shape (kind_of (came n m)) (reached derivation n) x k g) [
+        by (Some m) e = elim (told_from (reached derivation n) m.shape (created n m) x k (subst (λ l. Has l x k) (turned n m e) h)) [
+          | inl g ↦ elim (become_from m.shape (kind_of (created n m)) (reached derivation n) x k g) [
             | inl a ↦ inl a
             | inr a ↦
                 let one = one_member (reached derivation n) (apart-reached derivation laws n) x m.shape a.2.0 Waiting a.2.1 (taken_waits n m e) (same_place-is derivation x m.shape a.0) in
@@ -203,7 +203,7 @@ module _ {N A F P : Type 0} (derivation : Derivation N A F P) where
         ]
 
     -- a child is new
-    pub child_new : (n : ℕ) (m : Placed N F P) (r : Result Members F) → came n m ≡ r → (c : N) (k : Kind F P)
+    pub child_new : (n : ℕ) (m : Placed N F P) (r : Result Members F) → created n m ≡ r → (c : N) (k : Kind F P)
         → Has (children_of r) c k
         → (derivation.lot c ≡ derivation.lot m.shape) × ((is_waiting k ≡ true) ⊎ (is_instance k ≡ true))
     child_new n m (Err f) e c k h = absurd h
@@ -232,7 +232,7 @@ module _ {N A F P : Type 0} (derivation : Derivation N A F P) where
       | inl g ↦ let t = had_turn n x k g w p in (t.0, t.1, t.2, t.3, omega (arith, t.4))
       | inr g ↦ elim g.2 [
         | inl e ↦ (n, g.0, g.1, e.0, omega arith)
-        | inr c ↦ elim (child_new n g.0 (came n g.0) refl x k c).1 [
+        | inr c ↦ elim (child_new n g.0 (created n g.0) refl x k c).1 [
           | inl q ↦ let no : true ≡ false = sym q ∙ w in absurd (cc)
           | inr q ↦ let no : true ≡ false = sym q ∙ p in absurd (cc)
         ]
@@ -252,11 +252,11 @@ module _ {N A F P : Type 0} (derivation : Derivation N A F P) where
 
     -- what its turn left of a shape is there in the end
     pub turn_ends : (end : ℕ) (n : ℕ) (m : Placed N F P) → next_of derivation (reached derivation n) ≡ Some m → n < end
-        → Has (reached derivation end) m.shape (kind_of (came n m))
-        × ((c : N) (k : Kind F P) → Has (children_of (came n m)) c k → Stands (reached derivation end) c k)
+        → Has (reached derivation end) m.shape (kind_of (created n m))
+        × ((c : N) (k : Kind F P) → Has (children_of (created n m)) c k → Stands (reached derivation end) c k)
     turn_ends end n m e below =
         let gap : (end - suc n) + suc n ≡ end = omega (arith, below) in
         let left = turn_left n m e in (
-          subst (λ l. Has (reached derivation l) m.shape (kind_of (came n m))) gap (done_stays (suc n) (end - suc n) m.shape (kind_of (came n m)) (kind_done (came n m)) left.0),
+          subst (λ l. Has (reached derivation l) m.shape (kind_of (created n m))) gap (done_stays (suc n) (end - suc n) m.shape (kind_of (created n m)) (kind_done (created n m)) left.0),
           λ c k h. subst (λ l. Stands (reached derivation l) c k) gap (stands_later (suc n) (end - suc n) c k (left.1 c k h)),
         )

@@ -66,7 +66,7 @@ pub record RowsAreSo (d e : Drawn) (x : Lot) (s : Sources) : Type 0 where
   pub led : LeadTo (codes "a" ∷ []) (in_lot (codes "a") d ∷ in_lot (codes "b") e ∷ [])
       (becoming_own (in_lot (codes "a") d) (in_lot (codes "b") e)) (codes "a" ∷ codes "b" ∷ [])
       (in_lot (codes "a") d ∷ in_lot (codes "b") e ∷ [])
-  pub came : told_by (becoming_own (in_lot (codes "a") d) (in_lot (codes "b") e))
+  pub created : told_by (becoming_own (in_lot (codes "a") d) (in_lot (codes "b") e))
       ≡ record { gone = []; come = in_lot (codes "b") e ∷ [] }
   -- and has to be taken away first
   pub unled : TellOfSame (codes "a" ∷ []) (codes "a" ∷ codes "b" ∷ [])

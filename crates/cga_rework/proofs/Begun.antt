@@ -54,7 +54,7 @@ module _ {X S A F P : Type 0} (content : Content X S A F P) (V T : View X) (gone
 
 module _ {X S A B F P : Type 0} (shapes : Shapes S) (content : Content X S A F P) (old new : Rules S A B F P) (V T : View X) (gone : ℕ → Bool)
     (was : IsCity shapes content old V) (r : IsRerooted content V T gone) where
-  module _ (tree : IsTree T) (came : (c : ℕ) (d : Seen X) → V c ≡ None → T c ≡ Some d → StandsOnTop shapes content d.node) (tops : HasTops shapes content new T) where
+  module _ (tree : IsTree T) (created : (c : ℕ) (d : Seen X) → V c ≡ None → T c ≡ Some d → StandsOnTop shapes content d.node) (tops : HasTops shapes content new T) where
     before : (c p : ℕ) (d x : Seen X) → T c ≡ Some d → d.parent ≡ Some p → T p ≡ Some x
         → (V c ≡ Some d) × (V p ≡ Some x)
     before c p d x t up u = elim (option_cases (V c)) [
@@ -69,7 +69,7 @@ module _ {X S A B F P : Type 0} (shapes : Shapes S) (content : Content X S A F P
     rerooted = record {
       tree = tree;
       root = λ c d t top. elim (option_cases (V c)) [
-        | inl none ↦ came c d none t
+        | inl none ↦ created c d none t
         | inr y ↦ was.root c d (y.1 ∙ ap Some (there content V T gone r c d y.0 t y.1).1) top
       ];
       child = λ c p d x t up u. let z = before c p d x t up u in was.child c p d x z.0 up z.1;
@@ -79,7 +79,7 @@ module _ {X S A B F P : Type 0} (shapes : Shapes S) (content : Content X S A F P
 
 -- where a city is rerooted to a tree, what came stands on top and the roots are the new rules', it is a city again
 pub rerooted_is_city : {X S A B F P : Type 0} → RerootedIsCity X S A B F P
-rerooted_is_city shapes content old new V T gone was tree r came tops = rerooted shapes content old new V T gone was r tree came tops
+rerooted_is_city shapes content old new V T gone was tree r created tops = rerooted shapes content old new V T gone was r tree created tops
 
 module _ {X S A B F P : Type 0} (shapes : Shapes S) (content : Content X S A F P) (old new : Rules S A B F P) (V T : View X) (gone : ℕ → Bool)
     (was : IsCity shapes content old V) (city : IsCity shapes content new T) (r : IsRerooted content V T gone) where
@@ -165,7 +165,7 @@ module _ {X S A B F P : Type 0} (shapes : Shapes S) (content : Content X S A F P
             inr (
               subst (λ (l : Ranked S). Among l edit.new.roots) y.3 root,
               sym y.4 ∙ r.waits y.0 y.1 none y.2,
-              on y.0 y.1 m y.2 y.3 (first.came y.0 y.1 none y.2),
+              on y.0 y.1 m y.2 y.3 (first.created y.0 y.1 none y.2),
               subst (λ j. IsFresh edit start nodes m j) y.4 (subst (λ (l : Ranked S). IsFresh edit start nodes l (content.kind y.1.node)) y.3 (fresh y.0 y.1 none y.2)),
               seen (content.shape y.1.node) (λ c d t plain does meet. first.arrived y.0 c y.1 d none y.2 t plain does meet) m (ap (λ (l : Ranked S). l.shape) (sym y.3)),
             )
@@ -200,7 +200,7 @@ module _ {X S A B F P : Type 0} (shapes : Shapes S) (content : Content X S A F P
                         let q = (same_ranked shapes content old V was z.0 x.0 z.1 x.1 v x.2 (z.3 ∙ sym x.3)).0 in
                         true_false (gone x.0) parent_goes (ap gone (sym q) ∙ e.0)
                   ],
-              seen (content.shape y.1.node) (λ c d t plain does meet. first.went y.0 c y.1 d y.2 away t plain does meet) m (ap (λ (l : Ranked S). l.shape) (sym y.3)),
+              seen (content.shape y.1.node) (λ c d t plain does meet. first.removed y.0 c y.1 d y.2 away t plain does meet) m (ap (λ (l : Ranked S). l.shape) (sym y.3)),
             )
       ]
 
@@ -254,7 +254,7 @@ module _ {X S A B F P : Type 0} (shapes : Shapes S) (content : Content X S A F P
       elim (bool_cases (agenda y.0)) [
         | inl q ↦ inl (on y.0 y.1 n y.2 y.3 q)
         | inr off ↦ elim (option_cases (V y.0)) [
-          | inl none ↦ inl (on y.0 y.1 n y.2 y.3 (first.came y.0 y.1 none y.2))
+          | inl none ↦ inl (on y.0 y.1 n y.2 y.3 (first.created y.0 y.1 none y.2))
           | inr x ↦ elim (first.changed y.0 y.1 y.2 plain) [
             | inl q ↦ inl (on y.0 y.1 n y.2 y.3 q)
             | inr same ↦

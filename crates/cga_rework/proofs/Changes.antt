@@ -21,7 +21,7 @@ use Rattle.cga_rework.proofs.NodeLists.{bool_cases, option_cases, none_some, tru
 use Rattle.cga_rework.proofs.Place.{same_ranked, keeps_as}
 use Rattle.cga_rework.proofs.Views.{once}
 use Rattle.cga_rework.proofs.Replaced.{Replacing, comer, where_from, rank_old, stayed, city_after}
-use Rattle.cga_rework.proofs.Went.{gone_away, not_there}
+use Rattle.cga_rework.proofs.Removed.{gone_away, not_there}
 use Rattle.cga_rework.proofs.Whole.{replacing}
 use Rattle.cga_rework.proofs.Begun.{stays, there}
 
@@ -40,10 +40,10 @@ module _ {N A F P : Type 0} (before after : List (Node N A F P)) (gone come : Li
       → ((d : Drawn N P) → Draws after d → Draws before d ⊎ Among d come)
       → IsChange before after gone come
   change ob oa og oc each_gone each_come lost found = record {
-    went_once = og;
-    came_once = oc;
-    each_went = each_gone;
-    each_came = each_come;
+    removed_once = og;
+    created_once = oc;
+    each_removed = each_gone;
+    each_created = each_come;
     balance = λ test.
         let xs = drawn (members_of before) in
         let ys = drawn (members_of after) in
@@ -68,7 +68,7 @@ module _ {X S A B F P : Type 0} (shapes : Shapes S) (content : Content X S A F P
 
 module _ {X S A B F P : Type 0} (shapes : Shapes S) (content : Content X S A F P) (old rules : Rules S A B F P) (laws : IsRulesEdit shapes old rules) (t : Replacing shapes content rules)
     (small great : ℕ) (within : IsBound t.V small) (within' : IsBound t.T great)
-    (went came : List (Drawn (Ranked S) P)) (lost : ListsLost content t.V t.T went) (found : ListsLost content t.T t.V came) where
+    (removed created : List (Drawn (Ranked S) P)) (lost : ListsLost content t.V t.T removed) (found : ListsLost content t.T t.V created) where
   city : IsCity shapes content rules t.T
   city = city_after shapes content rules t
 
@@ -78,8 +78,8 @@ module _ {X S A B F P : Type 0} (shapes : Shapes S) (content : Content X S A F P
   abbrev after : List (Node (Ranked S) A F P)
   after = nodes_of content t.T great
 
-  each_went : (x : Drawn (Ranked S) P) → Among x went → Draws before x × (Draws after x → ⊥)
-  each_went x h =
+  each_removed : (x : Drawn (Ranked S) P) → Among x removed → Draws before x × (Draws after x → ⊥)
+  each_removed x h =
       let y = (lost.each x).0 h in
       let goes : t.gone y.0 ≡ true = elim (bool_cases (t.gone y.0)) [
         | inl g ↦ g
@@ -89,8 +89,8 @@ module _ {X S A B F P : Type 0} (shapes : Shapes S) (content : Content X S A F P
       let here = keeps_drawn shapes content rules t.V t.start small within y.0 y.1 x y.2 y.4 y.5 in
       (here, λ g. gone_away shapes content old rules laws t small great within within' y.0 y.1 y.2 goes x.shape (ap (λ (l : Ranked S). shapes.lot l.shape) f, ap (λ (l : Ranked S). shapes.path l.shape) f) (Instance x.solid) here.0 g.0 here.1 g.1)
 
-  each_came : (x : Drawn (Ranked S) P) → Among x came → Draws after x × (Draws before x → ⊥)
-  each_came x h =
+  each_created : (x : Drawn (Ranked S) P) → Among x created → Draws after x × (Draws before x → ⊥)
+  each_created x h =
       let y = (found.each x).0 h in
       let n = comer shapes content rules t y.0 y.1 y.3 y.2 in (
         keeps_drawn shapes content rules t.T city great within' y.0 y.1 x y.2 y.4 y.5,
@@ -99,8 +99,8 @@ module _ {X S A B F P : Type 0} (shapes : Shapes S) (content : Content X S A F P
             not_there shapes content old rules laws t small great within within' y.0 z.0 y.1 z.1 y.2 n z.2 (z.3 ∙ sym y.4) (ap is_instance (z.4 ∙ sym y.5)) (λ i. z.4 ∙ sym y.5),
       )
 
-  stays_or_went : (x : Drawn (Ranked S) P) → Draws before x → Draws after x ⊎ Among x went
-  stays_or_went x g =
+  stays_or_removed : (x : Drawn (Ranked S) P) → Draws before x → Draws after x ⊎ Among x removed
+  stays_or_removed x g =
       let z = keeps-node content t.V small x.shape (Instance x.solid) g.0 g.1 in
       elim (bool_cases (t.gone z.0)) [
         | inr f ↦
@@ -112,8 +112,8 @@ module _ {X S A B F P : Type 0} (shapes : Shapes S) (content : Content X S A F P
             inr ((lost.each x).1 (z.0, z.1, z.2, t.r.rest z.0 z.1 apart z.2 ∙ ap (λ b. if b then None else Some z.1) goes, z.3, z.4))
       ]
 
-  was_or_came : (x : Drawn (Ranked S) P) → Draws after x → Draws before x ⊎ Among x came
-  was_or_came x g =
+  was_or_created : (x : Drawn (Ranked S) P) → Draws after x → Draws before x ⊎ Among x created
+  was_or_created x g =
       let z = keeps-node content t.T great x.shape (Instance x.solid) g.0 g.1 in
       elim (where_from shapes content rules t z.0 z.1 z.2) [
         | inl i ↦ true_false (is_instance (content.kind t.now.node)) (ap (λ (y : Seen X). is_instance (content.kind y.node)) (sym i.1) ∙ ap is_instance z.4) t.self.is
@@ -123,12 +123,12 @@ module _ {X S A B F P : Type 0} (shapes : Shapes S) (content : Content X S A F P
         ]
       ]
 
-  pub turn_change : IsChange before after went came
-  turn_change = change before after went came (once shapes content rules t.V t.start small) (once shapes content rules t.T city great) lost.once found.once each_went each_came stays_or_went was_or_came
+  pub turn_change : IsChange before after removed created
+  turn_change = change before after removed created (once shapes content rules t.V t.start small) (once shapes content rules t.T city great) lost.once found.once each_removed each_created stays_or_removed was_or_created
 
 module _ {X S A B F P : Type 0} (shapes : Shapes S) (content : Content X S A F P) (old new : Rules S A B F P) (V T : View X) (small great : ℕ) (gone : ℕ → Bool)
     (within : IsBound V small) (within' : IsBound T great) (was : IsCity shapes content old V) (city : IsCity shapes content new T) (r : IsRerooted content V T gone)
-    (went : List (Drawn (Ranked S) P)) (lost : ListsLost content V T went) where
+    (removed : List (Drawn (Ranked S) P)) (lost : ListsLost content V T removed) where
   abbrev start : List (Node (Ranked S) A F P)
   start = nodes_of content V small
 
@@ -142,8 +142,8 @@ module _ {X S A B F P : Type 0} (shapes : Shapes S) (content : Content X S A F P
     | inr y ↦ y.1 ∙ ap Some (there content V T gone r c d y.0 t y.1).1
   ]
 
-  pub roots_change : IsChange start nodes went []
-  roots_change = change start nodes went [] (once shapes content old V was small) (once shapes content new T city great) lost.once tt
+  pub roots_change : IsChange start nodes removed []
+  roots_change = change start nodes removed [] (once shapes content old V was small) (once shapes content new T city great) lost.once tt
       (λ x h.
       let y = (lost.each x).0 h in (
         keeps_drawn shapes content old V was small within y.0 y.1 x y.2 y.4 y.5,
@@ -167,8 +167,8 @@ module _ {X S A B F P : Type 0} (shapes : Shapes S) (content : Content X S A F P
 -- the instances that went and came in a turn, or went with roots, are a change; nothing is one where nothing changes
 pub lists_are_changes : {X S A B F P : Type 0} → ListsAreChanges X S A B F P
 lists_are_changes = record {
-  turn = λ shapes content old new laws by_symbol fits asks meets is_fit V T small great id news e now gone agenda rest after expanded within within' under turn went came lost found.
-      turn_change shapes content old new laws (replacing shapes content old new laws by_symbol fits asks meets is_fit V T small great id news e now gone agenda rest after expanded within within' under turn) small great within within' went came lost found;
-  roots = λ shapes content old new V T small great gone within within' was city r went lost. roots_change shapes content old new V T small great gone within within' was city r went lost;
-  quiet = λ content V n. record { went_once = tt; came_once = tt; each_went = λ d h. absurd h; each_came = λ d h. absurd h; balance = λ test. refl };
+  turn = λ shapes content old new laws by_symbol fits asks meets is_fit V T small great id news e now gone agenda rest after expanded within within' under turn removed created lost found.
+      turn_change shapes content old new laws (replacing shapes content old new laws by_symbol fits asks meets is_fit V T small great id news e now gone agenda rest after expanded within within' under turn) small great within within' removed created lost found;
+  roots = λ shapes content old new V T small great gone within within' was city r removed lost. roots_change shapes content old new V T small great gone within within' was city r removed lost;
+  quiet = λ content V n. record { removed_once = tt; created_once = tt; each_removed = λ d h. absurd h; each_created = λ d h. absurd h; balance = λ test. refl };
 }

@@ -205,9 +205,9 @@ module _ {S A B F P : Type 0} (shapes : Shapes S) where
               let law = done.1.balance (λ d. test (unranked_drawn d)) in
               let one = shape_count test o.1 (old_list i) o.3 in
               let other = shape_count test w.1 (new_list j) w.3 in
-              let came = count-map unranked_drawn test come in
-              let went = count-map unranked_drawn test gone in
-              omega (arith, law, one, other, came, went)
+              let created = count-map unranked_drawn test come in
+              let removed = count-map unranked_drawn test gone in
+              omega (arith, law, one, other, created, removed)
 
           pub end : IsExactRework shapes old new now worked gone come (old_list i) (new_list j)
           end = record {

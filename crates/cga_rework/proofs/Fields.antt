@@ -5,7 +5,7 @@ use Rattle.cga_tree.specs.Tree.{Seen, View}
 use Rattle.cga_order.specs.Chain.{IsChild}
 use Rattle.cga_order.specs.World.{World, is_instance, place_of, IsEarlier, stamp_of}
 use Rattle.cga_order.specs.declared.placed.Kind.{Kind}
-use Rattle.cga_order.specs.Agenda.{Node, Keeps, Came, Went, Remains, QueuesWhatSees, QueuesOnly, IsNext}
+use Rattle.cga_order.specs.Agenda.{Node, Keeps, Created, Removed, Remains, QueuesWhatSees, QueuesOnly, IsNext}
 use Rattle.cga_order.specs.Agenda as kept
 use Rattle.cga_agenda.specs.Edit.{Edit}
 use Rattle.cga_agenda.specs.Work.{IsFresh}
@@ -18,7 +18,7 @@ use Rattle.cga_rework.specs.Turn.{SeesWhatMeets}
 use Rattle.cga_rework.proofs.NodeLists.{bool_cases, nat_cases, some_same, true_false, keeps-node}
 use Rattle.cga_rework.proofs.Place.{keyed, earlier, later, same_node, keeps_as, is_tree}
 use Rattle.cga_rework.proofs.Replaced.{Replacing, IsComer, comer, where_from, below_before, both, child_priced, rank_old, rank_self, stayed, city_after}
-use Rattle.cga_rework.proofs.Went as went
+use Rattle.cga_rework.proofs.Removed as removed
 
 module _ {X S A B F P : Type 0} (shapes : Shapes S) (content : Content X S A F P) (rules : Rules S A B F P) (V : View X) (city : IsCity shapes content rules V) where
   -- the node that was taken is the next
@@ -89,7 +89,7 @@ module _ {X S A B F P : Type 0} (shapes : Shapes S) (content : Content X S A F P
         | inl q ↦ inl (stays_on c d d o.1 u o.0 q)
         | inr a ↦ inr a
       ]
-      | inr n ↦ inl (moved.came c d n.vacant u solid)
+      | inr n ↦ inl (moved.created c d n.vacant u solid)
     ]
   ]
 
@@ -115,8 +115,8 @@ module _ {X S A B F P : Type 0} (shapes : Shapes S) (content : Content X S A F P
   late c d n u q h = later shapes content rules t.e.node d.node (keyed shapes content rules t.V t.start t.id t.e t.r.was) (keyed shapes content rules t.T city c d u) (subst (λ m. IsEarlier w (stamp_of w s) (stamp_of w m)) (sym q) h)
 
   -- what sees what went is on the agenda
-  seen_went : (b : ℕ) (x : Seen X) → t.V b ≡ Some x → t.T b ≡ None → QueuesWhatSees w nodes' s (rank x.node) requeued
-  seen_went b x v gone n k a h solid after_s sees =
+  seen_removed : (b : ℕ) (x : Seen X) → t.V b ≡ Some x → t.T b ≡ None → QueuesWhatSees w nodes' s (rank x.node) requeued
+  seen_removed b x v gone n k a h solid after_s sees =
       let y = keeps-node content t.T great n k a h in
       let is = sees_is n.shape (content.shape x.node) sees in
       let shape : content.shape y.1.node ≡ n.shape = ap (λ (m : Ranked S). m.shape) y.3 in
@@ -126,11 +126,11 @@ module _ {X S A B F P : Type 0} (shapes : Shapes S) (content : Content X S A F P
         | inr a' ↦
             let does : content.asks y.1.node ≡ true = a' ∙ ap asks shape ∙ is.0 in
             let meet : meets (content.shape y.1.node) (content.shape x.node) ≡ true = ap (λ m. meets m (content.shape x.node)) shape ∙ is.1 in
-            on y.0 y.1 n y.2 y.3 (moved.went b y.0 x y.1 v gone y.2 plain does meet (late y.0 y.1 n y.2 y.3 after_s))
+            on y.0 y.1 n y.2 y.3 (moved.removed b y.0 x y.1 v gone y.2 plain does meet (late y.0 y.1 n y.2 y.3 after_s))
       ]
 
-  seen_came : (b : ℕ) (x : Seen X) → t.V b ≡ None → t.T b ≡ Some x → QueuesWhatSees w nodes' s (rank x.node) requeued
-  seen_came b x v came n k a h solid after_s sees =
+  seen_created : (b : ℕ) (x : Seen X) → t.V b ≡ None → t.T b ≡ Some x → QueuesWhatSees w nodes' s (rank x.node) requeued
+  seen_created b x v created n k a h solid after_s sees =
       let y = keeps-node content t.T great n k a h in
       let is = sees_is n.shape (content.shape x.node) sees in
       let shape : content.shape y.1.node ≡ n.shape = ap (λ (m : Ranked S). m.shape) y.3 in
@@ -140,7 +140,7 @@ module _ {X S A B F P : Type 0} (shapes : Shapes S) (content : Content X S A F P
         | inr a' ↦
             let does : content.asks y.1.node ≡ true = a' ∙ ap asks shape ∙ is.0 in
             let meet : meets (content.shape y.1.node) (content.shape x.node) ≡ true = ap (λ m. meets m (content.shape x.node)) shape ∙ is.1 in
-            on y.0 y.1 n y.2 y.3 (moved.arrived b y.0 x y.1 v came y.2 plain does meet (late y.0 y.1 n y.2 y.3 after_s))
+            on y.0 y.1 n y.2 y.3 (moved.arrived b y.0 x y.1 v created y.2 plain does meet (late y.0 y.1 n y.2 y.3 after_s))
       ]
 
   keeps_before : (c : ℕ) (d : Seen X) (m : Ranked S) (k : Kind F P) (a : A) → t.V c ≡ Some d → rank d.node ≡ m
@@ -152,7 +152,7 @@ module _ {X S A B F P : Type 0} (shapes : Shapes S) (content : Content X S A F P
 
   -- each other node is as it was, or came
   pub from : (m : Ranked S) (k : Kind F P) (a : A) → Keeps nodes' m k a → m ≢ s
-      → Keeps nodes m k a ⊎ (Came w nodes' s m k requeued × IsFresh edit nodes nodes' m k)
+      → Keeps nodes m k a ⊎ (Created w nodes' s m k requeued × IsFresh edit nodes nodes' m k)
   from m k a h apart =
       let y = keeps-node content t.T great m k a h in
       elim (from_where y.0 y.1 y.2) [
@@ -160,21 +160,21 @@ module _ {X S A B F P : Type 0} (shapes : Shapes S) (content : Content X S A F P
         | inr z ↦ elim z [
           | inl o ↦ inl (keeps_before y.0 y.1 m k a o.1 y.3 y.4 y.5)
           | inr n ↦
-              let below = went.comer_below shapes content old rules laws t small great within within' y.0 y.1 y.2 n in
-              let new = went.fresh shapes content old rules laws t small great within within' y.0 y.1 y.2 n in
-              let came : Came w nodes' s (rank y.1.node) (content.kind y.1.node) requeued = (
+              let below = removed.comer_below shapes content old rules laws t small great within within' y.0 y.1 y.2 n in
+              let new = removed.fresh shapes content old rules laws t small great within within' y.0 y.1 y.2 n in
+              let created : Created w nodes' s (rank y.1.node) (content.kind y.1.node) requeued = (
                 (n.place, below),
-                (λ i. on y.0 y.1 (rank y.1.node) y.2 refl (moved.came y.0 y.1 n.vacant y.2 i)),
-                seen_came y.0 y.1 n.vacant y.2,
+                (λ i. on y.0 y.1 (rank y.1.node) y.2 refl (moved.created y.0 y.1 n.vacant y.2 i)),
+                seen_created y.0 y.1 n.vacant y.2,
               ) in
-              inr (subst (λ j. Came w nodes' s m j requeued × IsFresh edit nodes nodes' m j) y.4
-              (subst (λ (l : Ranked S). Came w nodes' s l (content.kind y.1.node) requeued × IsFresh edit nodes nodes' l (content.kind y.1.node)) y.3 (came, new)))
+              inr (subst (λ j. Created w nodes' s m j requeued × IsFresh edit nodes nodes' m j) y.4
+              (subst (λ (l : Ranked S). Created w nodes' s l (content.kind y.1.node) requeued × IsFresh edit nodes nodes' l (content.kind y.1.node)) y.3 (created, new)))
         ]
       ]
 
   -- each node remains, or went
   pub to : (m : Ranked S) (k : Kind F P) (a : A) → Keeps nodes m k a
-      → Remains w nodes' m k ⊎ Went w s m nodes nodes' requeued
+      → Remains w nodes' m k ⊎ Removed w s m nodes nodes' requeued
   to m k a h =
       let y = keeps-node content t.V small m k a h in
       elim (bool_cases (t.gone y.0)) [
@@ -190,10 +190,10 @@ module _ {X S A B F P : Type 0} (shapes : Shapes S) (content : Content X S A F P
         | inl goes ↦
             let apart : y.0 ≢ t.id = λ q. true_false (t.gone y.0) goes (ap t.gone q ∙ t.r.self) in
             let away : t.T y.0 ≡ None = t.r.rest y.0 y.1 apart y.2 ∙ ap (λ b. if b then None else Some y.1) goes in
-            inr (subst (λ (l : Ranked S). Went w s l nodes nodes' requeued) y.3 (record {
-              late = went.went_late shapes content old rules laws t small great within within' y.1.depth y.0 y.1 refl y.2 goes;
-              below = went.went_below shapes content old rules laws t small great within within' y.0 y.1 y.2 goes;
-              seen = seen_went y.0 y.1 y.2 away;
+            inr (subst (λ (l : Ranked S). Removed w s l nodes nodes' requeued) y.3 (record {
+              late = removed.removed_late shapes content old rules laws t small great within within' y.1.depth y.0 y.1 refl y.2 goes;
+              below = removed.removed_below shapes content old rules laws t small great within within' y.0 y.1 y.2 goes;
+              seen = seen_removed y.0 y.1 y.2 away;
             }))
       ]
 
@@ -209,7 +209,7 @@ module _ {X S A B F P : Type 0} (shapes : Shapes S) (content : Content X S A F P
         | inl i ↦ absurd (apart (sym y.3 ∙ self_is y.1 i.1))
         | inr z ↦ elim z [
           | inl o ↦ on y.0 y.1 m y.2 y.3 (stays_on y.0 y.1 y.1 o.1 y.2 o.0 ((are y.0 y.1 o.1).0 (ap queued y.3 ∙ q)))
-          | inr n ↦ on y.0 y.1 m y.2 y.3 (moved.came y.0 y.1 n.vacant y.2 plain)
+          | inr n ↦ on y.0 y.1 m y.2 y.3 (moved.created y.0 y.1 n.vacant y.2 plain)
         ]
       ]
 
@@ -224,7 +224,7 @@ module _ {X S A B F P : Type 0} (shapes : Shapes S) (content : Content X S A F P
   queues_only m k a h q =
       let y = keeps-node content t.T great m k a h in
       let comes : (n : IsNewcomer y.0 y.1) → (i : ℕ) × IsChild (chain_of shapes s) i (chain_of shapes m) =
-      λ n. (n.place, subst (λ (l : Ranked S). IsChild (chain_of shapes s) n.place (chain_of shapes l)) y.3 (went.comer_below shapes content old rules laws t small great within within' y.0 y.1 y.2 n)) in
+      λ n. (n.place, subst (λ (l : Ranked S). IsChild (chain_of shapes s) n.place (chain_of shapes l)) y.3 (removed.comer_below shapes content old rules laws t small great within within' y.0 y.1 y.2 n)) in
       elim (moved.only y.0 y.1 y.2 ((are' y.0 y.1 y.2).0 (ap requeued y.3 ∙ q))) [
         | inl u ↦
             let left = taken.left y.0 u.0 u.1 u.2 in

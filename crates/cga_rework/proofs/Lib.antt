@@ -13,7 +13,7 @@ mod Stands
 mod NodeLists
 mod Place
 mod Replaced
-mod Went
+mod Removed
 mod Queue
 mod Fields
 mod Renewed

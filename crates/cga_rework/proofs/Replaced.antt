@@ -126,7 +126,7 @@ module _ {X S A B F P : Type 0} (shapes : Shapes S) (content : Content X S A F P
     pub leaf : d.children ≡ []
 
   pub comer : (c : ℕ) (d : Seen X) → V c ≡ None → T c ≡ Some d → IsComer c d
-  comer c d v u = elim (t.r.came c v) [
+  comer c d v u = elim (t.r.created c v) [
     | inl none ↦ none_some d (sym none ∙ u)
     | inr x ↦
         let y = t.r.each x.0 c x.1 in

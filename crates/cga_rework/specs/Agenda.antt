@@ -30,10 +30,10 @@ module _ {X S A F P : Type 0} (shapes : Shapes S) (content : Content X S A F P) 
   pub record IsMoved (meets : S → S → Bool) (V T : View X) (e : X) (rest after : ℕ → Bool) : Type 0 where
     pub kept : (c : ℕ) (x d : Seen X) → V c ≡ Some x → T c ≡ Some d → rest c ≡ true → after c ≡ true
     -- what came is on it
-    pub came : (c : ℕ) (d : Seen X) → V c ≡ None → T c ≡ Some d → is_instance (content.kind d.node) ≡ false
+    pub created : (c : ℕ) (d : Seen X) → V c ≡ None → T c ≡ Some d → is_instance (content.kind d.node) ≡ false
         → after c ≡ true
     -- for each box that went and each that came: each asker of greater stamp that meets it
-    pub went : (b c : ℕ) (x d : Seen X) → V b ≡ Some x → T b ≡ None → T c ≡ Some d
+    pub removed : (b c : ℕ) (x d : Seen X) → V b ≡ Some x → T b ≡ None → T c ≡ Some d
         → is_instance (content.kind d.node) ≡ false → content.asks d.node ≡ true
         → meets (content.shape d.node) (content.shape x.node) ≡ true
         → ComesLater content shapes e d.node → after c ≡ true

@@ -22,9 +22,9 @@ module _ {X S A F P : Type 0} (content : Content X S A F P) where
         → content.shape x.node ≡ content.shape d.node → content.priority x.node ≡ content.priority d.node → ⊥
 
   -- a removal: with a node goes all below it
-  pub record IsRemoved (U T : View X) (went : ℕ → Bool) : Type 0 where
-    pub rest : (c : ℕ) → T c ≡ (if went c then None else U c)
-    pub along : (c p : ℕ) (d : Seen X) → U c ≡ Some d → d.parent ≡ Some p → went c ≡ went p
+  pub record IsRemoved (U T : View X) (removed : ℕ → Bool) : Type 0 where
+    pub rest : (c : ℕ) → T c ≡ (if removed c then None else U c)
+    pub along : (c p : ℕ) (d : Seen X) → U c ≡ Some d → d.parent ≡ Some p → removed c ≡ removed p
 
   -- an addition to U, under a number that names no node of the first view V either
   pub record IsAdded (V U T : View X) (id : ℕ) (x : Seen X) : Type 0 where
@@ -41,9 +41,9 @@ module _ {X S A F P : Type 0} (content : Content X S A F P) where
 module _ {X S A B F P : Type 0} (shapes : Shapes S) (content : Content X S A F P) (old new : Rules S A B F P) where
   -- the first agenda
   pub record IsFirstAgenda (asks : S → Bool) (meets : S → S → Bool) (V T : View X) (agenda : ℕ → Bool) : Type 0 where
-    pub came : (c : ℕ) (d : Seen X) → V c ≡ None → T c ≡ Some d → agenda c ≡ true
+    pub created : (c : ℕ) (d : Seen X) → V c ≡ None → T c ≡ Some d → agenda c ≡ true
     -- for each box that went or came: each asker that meets it, at any stamp
-    pub went : (b c : ℕ) (x d : Seen X) → V b ≡ Some x → T b ≡ None → T c ≡ Some d
+    pub removed : (b c : ℕ) (x d : Seen X) → V b ≡ Some x → T b ≡ None → T c ≡ Some d
         → is_instance (content.kind d.node) ≡ false → content.asks d.node ≡ true
         → meets (content.shape d.node) (content.shape x.node) ≡ true → agenda c ≡ true
     pub arrived : (b c : ℕ) (x d : Seen X) → V b ≡ None → T b ≡ Some x → T c ≡ Some d

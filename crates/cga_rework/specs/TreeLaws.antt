@@ -112,14 +112,14 @@ module _ (X S A B F P : Type 0) where
         → IsBound V small → IsBound T great
         → IsUnderway shapes content new asks V agenda
         → IsNodeTurn shapes content old new fits asks meets V T small id news e now gone agenda rest after expanded
-        → (went came : List (Drawn (Ranked S) P)) → ListsLost content V T went → ListsLost content T V came
-        → IsChange (nodes_of content V small) (nodes_of content T great) went came
+        → (removed created : List (Drawn (Ranked S) P)) → ListsLost content V T removed → ListsLost content T V created
+        → IsChange (nodes_of content V small) (nodes_of content T great) removed created
     pub roots : (shapes : Shapes S) (content : Content X S A F P) (old new : Rules S A B F P)
         → (V T : View X) (small great : ℕ) (gone : ℕ → Bool)
         → IsBound V small → IsBound T great
         → IsCity shapes content old V → IsCity shapes content new T → IsRerooted content V T gone
-        → (went : List (Drawn (Ranked S) P)) → ListsLost content V T went
-        → IsChange (nodes_of content V small) (nodes_of content T great) went []
+        → (removed : List (Drawn (Ranked S) P)) → ListsLost content V T removed
+        → IsChange (nodes_of content V small) (nodes_of content T great) removed []
     pub quiet : (content : Content X S A F P) (V : View X) (n : ℕ)
         → IsChange (nodes_of content V n) (nodes_of content V n) [] []
 
@@ -174,7 +174,7 @@ EntriesNumber K =
 -- removals and additions of roots, one after the other
 pub record RootsAddUp (X S A F P : Type 0) : Type 0 where
   pub nothing : (content : Content X S A F P) (V : View X) → IsRerooted content V V (λ c. false)
-  pub removal : (content : Content X S A F P) (V U T : View X) (gone went : ℕ → Bool)
-      → IsRerooted content V U gone → IsRemoved content U T went → IsRerooted content V T (λ c. gone c || went c)
+  pub removal : (content : Content X S A F P) (V U T : View X) (gone removed : ℕ → Bool)
+      → IsRerooted content V U gone → IsRemoved content U T removed → IsRerooted content V T (λ c. gone c || removed c)
   pub addition : (content : Content X S A F P) (V U T : View X) (gone : ℕ → Bool) (id : ℕ) (x : Seen X)
       → IsRerooted content V U gone → IsAdded content V U T id x → IsRerooted content V T gone

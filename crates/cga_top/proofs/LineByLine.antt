@@ -4,14 +4,14 @@ use Rattle.cga_script.specs.Lines.{Line}
 use Rattle.cga_top.specs.Effect.{Effect}
 use Rattle.cga_top.specs.Replies.{effect}
 use Rattle.cga_top.specs.State.{State}
-use Rattle.cga_top.specs.Turns.{HaveChanged, Talk, Turn, after, lines_in, text_by}
+use Rattle.cga_top.specs.Turns.{HaveChanged, Talk, LineChanges, after, lines_in, text_by}
 use Rattle.cga_top.proofs.Effects.{all_more, all_none}
 
-pub lines_both : (xs ys : List Turn) → lines_in (xs ++ ys) ≡ lines_in xs ++ lines_in ys
+pub lines_both : (xs ys : List LineChanges) → lines_in (xs ++ ys) ≡ lines_in xs ++ lines_in ys
 lines_both [] ys = refl
 lines_both (x ∷ xs) ys = ap (λ (lines : List Line). x.line ∷ lines) (lines_both xs ys)
 
-pub changed_more : (s : State) (xs ys : List Turn) → HaveChanged s xs → HaveChanged (after s xs) ys
+pub changed_more : (s : State) (xs ys : List LineChanges) → HaveChanged s xs → HaveChanged (after s xs) ys
     → HaveChanged s (xs ++ ys)
 changed_more s [] ys p q = subst (λ (e : Effect). HaveChanged e.state ys) (all_none s) q
 changed_more s (x ∷ xs) ys p q = (
@@ -19,7 +19,7 @@ changed_more s (x ∷ xs) ys p q = (
   changed_more (effect s x.line).state xs ys p.1 (subst (λ (e : Effect). HaveChanged e.state ys) (all_more s x.line (lines_in xs)) q),
 )
 
-pub text_more : (told : Talk) (s : State) (xs ys : List Turn)
+pub text_more : (told : Talk) (s : State) (xs ys : List LineChanges)
     → text_by told s (xs ++ ys) ≡ text_by told s xs ++ text_by told (after s xs) ys
 text_more told s [] ys = ap (λ (e : Effect). text_by told e.state ys) (sym (all_none s))
 text_more told s (x ∷ xs) ys =

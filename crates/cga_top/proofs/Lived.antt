@@ -14,7 +14,7 @@ use Rattle.cga_top.specs.Prefixes.{AppendsSome}
 use Rattle.cga_top.specs.Replies.{at_end, effect}
 use Rattle.cga_top.specs.Session.{Did, IsAt, IsOpen}
 use Rattle.cga_top.specs.State.{State}
-use Rattle.cga_top.specs.Turns.{HaveChanged, Talk, Turn, after, lines_in, text_by}
+use Rattle.cga_top.specs.Turns.{HaveChanged, Talk, LineChanges, after, lines_in, text_by}
 use Rattle.cga_top.specs.declared.session.Session.{Session}
 use Rattle.cga_top.proofs.Effects.{all_append, all_more, all_none, followed_silent, some_after, some_more, some_nothing, spent_more}
 use Rattle.cga_top.proofs.Known.{appends_all, appends_more, appends_nothing}
@@ -25,7 +25,7 @@ abbrev pub line_of : List ℕ → Bool → Line
 line_of bytes long = record { bytes = bytes; long = long }
 
 -- turns after turns
-module _ (told : Talk) (s : State) (xs ys : List Line) (first second : List Turn) (are : lines_in first ≡ xs) where
+module _ (told : Talk) (s : State) (xs ys : List Line) (first second : List LineChanges) (are : lines_in first ≡ xs) where
   state_is : after s first ≡ (effect_of_all s xs).state
   state_is = ap (λ (lines : List Line). (effect_of_all s lines).state) are
 

@@ -15,7 +15,7 @@ use Rattle.cga_top.specs.Replies.{effect}
 use Rattle.cga_top.specs.State.{State, start}
 use Rattle.cga_top.specs.Statuses.{StatusMeans, WritesPrefix, WritesReplies}
 use Rattle.cga_top.specs.Talks.{SaysAll, SaysSome, TalkMeans, TalksLines, TalksPrefix}
-use Rattle.cga_top.specs.Turns.{Talk, Turn, all_lines, end_of, lines_in, text_by}
+use Rattle.cga_top.specs.Turns.{Talk, LineChanges, all_lines, end_of, lines_in, text_by}
 use Rattle.cga_top.proofs.Effects.{all_append, all_more, all_none, some_more}
 use Rattle.cga_top.proofs.Ends.{none_means}
 use Rattle.cga_top.proofs.WholeScript.{output_is}
@@ -23,7 +23,8 @@ use Rattle.cga_top.proofs.WholeScript.{output_is}
 abbrev pub nothing_told : Talk
 nothing_told = λ changes. []
 
-replies_are : (s : State) (turns : List Turn) → text_by nothing_told s turns ≡ (effect_of_all s (lines_in turns)).reply
+replies_are : (s : State) (turns : List LineChanges)
+    → text_by nothing_told s turns ≡ (effect_of_all s (lines_in turns)).reply
 replies_are s [] = ap (λ (e : Effect). e.reply) (sym (all_none s))
 replies_are s (x ∷ xs) =
     let reply : List ℕ = (effect s x.line).reply in
@@ -33,7 +34,7 @@ replies_are s (x ∷ xs) =
     ∙ ap (λ (e : Effect). e.reply) (sym (all_more s x.line (lines_in xs)))
 
 -- the replies to all lines, and to the end
-all_replies : (d : ℕ) (bytes : List ℕ) (turns : List Turn) → lines_in turns ≡ all_lines bytes
+all_replies : (d : ℕ) (bytes : List ℕ) (turns : List LineChanges) → lines_in turns ≡ all_lines bytes
     → text_by nothing_told (start d) turns ++ end_of d bytes ≡ output_of d bytes
 all_replies d bytes turns are =
     ap (λ (r : List ℕ). r ++ end_of d bytes) (replies_are (start d) turns ∙ ap (λ (l : List Line). (effect_of_all (start d) l).reply) are)
@@ -43,7 +44,7 @@ pub writes_all : (d : ℕ) (bytes : List ℕ) (a c : Option (List ℕ)) → Says
     → Appends a c (output_of d bytes)
 writes_all d bytes a c p = subst (Appends a c) (all_replies d bytes p.turns p.lines) p.written
 
-some_replies : (d : ℕ) (bytes : List ℕ) (a c : Option (List ℕ)) (turns : List Turn) (left : List Line)
+some_replies : (d : ℕ) (bytes : List ℕ) (a c : Option (List ℕ)) (turns : List LineChanges) (left : List Line)
     → lines_in turns ++ left ≡ all_lines bytes
     → AppendsSome a c (text_by nothing_told (start d) turns ++ behind_all left (end_of d bytes))
     → AppendsSome a c (output_of d bytes)

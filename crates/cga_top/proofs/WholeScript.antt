@@ -15,7 +15,7 @@ use Rattle.cga_top.specs.Reads.{limit}
 use Rattle.cga_top.specs.Replies.{at_end}
 use Rattle.cga_top.specs.State.{State, start}
 use Rattle.cga_top.specs.Talks.{SaysAll, SaysSome}
-use Rattle.cga_top.specs.Turns.{Talk, Turn, all_lines, end_of, last_of, text_by}
+use Rattle.cga_top.specs.Turns.{Talk, LineChanges, all_lines, end_of, last_of, text_by}
 use Rattle.cga_top.specs.declared.session.Session.{Session}
 use Rattle.cga_top.proofs.Effects.{all_append, all_none, followed_assoc, some_after, some_more, spent_more}
 use Rattle.cga_top.proofs.Known.{appends_more}
@@ -104,7 +104,7 @@ module _ (told : Talk) (d : ℕ) (bytes : List ℕ) where
       → Lived told (start d) lines session a b i j → Finished told mid_state rest next b c j k
       → SaysAll told d bytes a c × HasSpent (effect_of_script d bytes).works i k
   says_all session next a b c i j k p q =
-      let turns : List Turn = p.turns ++ q.turns in
+      let turns : List LineChanges = p.turns ++ q.turns in
       let end : List ℕ = (at_end (effect_of_all mid_state rest).state).reply in
       let first : List ℕ = text_by told (start d) p.turns in
       let second : List ℕ = text_by told mid_state q.turns in
@@ -126,7 +126,7 @@ module _ (told : Talk) (d : ℕ) (bytes : List ℕ) where
   pub says_some : (session : Session) (a b c : Option (List ℕ)) (i j : ℕ)
       → Lived told (start d) lines session a b i j → Unfinished told mid_state rest b c → SaysSome told d bytes a c
   says_some session a b c i j p q =
-      let turns : List Turn = p.turns ++ q.turns in
+      let turns : List LineChanges = p.turns ++ q.turns in
       let end : List ℕ = (at_end (effect_of_all mid_state rest).state).reply in
       let first : List ℕ = text_by told (start d) p.turns in
       let second : List ℕ = text_by told mid_state q.turns in

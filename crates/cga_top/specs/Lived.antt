@@ -9,7 +9,7 @@ use Rattle.cga_top.specs.Prefixes.{AppendsSome}
 use Rattle.cga_top.specs.Replies.{at_end}
 use Rattle.cga_top.specs.Session.{IsAt}
 use Rattle.cga_top.specs.State.{State}
-use Rattle.cga_top.specs.Turns.{HaveChanged, Talk, Turn, lines_in, text_by}
+use Rattle.cga_top.specs.Turns.{HaveChanged, Talk, LineChanges, lines_in, text_by}
 use Rattle.cga_top.specs.declared.session.Session.{Session}
 
 -- the session has come to the state, and what lines changed is forgotten
@@ -19,7 +19,7 @@ pub record IsHere (s : State) (session : Session) : Type 0 where
 
 -- lines were done: the session has come to their state, they were replied to and told, and their works expanded so much
 pub record Lived (told : Talk) (s : State) (lines : List Line) (session : Session) (old new : Option (List ℕ)) (before after : ℕ) : Type 0 where
-  pub turns : List Turn
+  pub turns : List LineChanges
   pub lines_are : lines_in turns ≡ lines
   pub changed : HaveChanged s turns
   pub here : IsHere (effect_of_all s lines).state session
@@ -28,7 +28,7 @@ pub record Lived (told : Talk) (s : State) (lines : List Line) (session : Sessio
 
 -- the first of the lines were done, and some of what is told of them was written
 pub record Begun (told : Talk) (s : State) (lines : List Line) (old new : Option (List ℕ)) : Type 0 where
-  pub turns : List Turn
+  pub turns : List LineChanges
   pub left : List Line
   pub lines_are : lines_in turns ++ left ≡ lines
   pub changed : HaveChanged s turns
@@ -42,7 +42,7 @@ pub record Underway (told : Talk) (s : State) (all left : List Line) (session : 
 
 -- the last lines were done, and then the end
 pub record Finished (told : Talk) (s : State) (lines : List Line) (session : Session) (old new : Option (List ℕ)) (before after : ℕ) : Type 0 where
-  pub turns : List Turn
+  pub turns : List LineChanges
   pub lines_are : lines_in turns ≡ lines
   pub changed : HaveChanged s turns
   pub at : IsAt (effect_of_all s lines).state session
@@ -56,7 +56,7 @@ behind_all (line ∷ lines) text = []
 
 -- some of what is told of them, and of the end, was written
 pub record Unfinished (told : Talk) (s : State) (lines : List Line) (old new : Option (List ℕ)) : Type 0 where
-  pub turns : List Turn
+  pub turns : List LineChanges
   pub left : List Line
   pub lines_are : lines_in turns ++ left ≡ lines
   pub changed : HaveChanged s turns

@@ -12,18 +12,18 @@ use Rattle.cga_top.specs.Prefixes.{AppendsSome}
 use Rattle.cga_top.specs.Reads.{limit, read_limit}
 use Rattle.cga_top.specs.State.{start}
 use Rattle.cga_top.specs.Statuses.{Spent}
-use Rattle.cga_top.specs.Turns.{HaveChanged, Talk, Turn, all_lines, end_of, lines_in, text_by}
+use Rattle.cga_top.specs.Turns.{HaveChanged, Talk, LineChanges, all_lines, end_of, lines_in, text_by}
 
 -- all lines of a script were replied to and told, and its end
 pub record SaysAll (told : Talk) (decimals : ℕ) (bytes : List ℕ) (old new : Option (List ℕ)) : Type 0 where
-  pub turns : List Turn
+  pub turns : List LineChanges
   pub lines : lines_in turns ≡ all_lines bytes
   pub changed : HaveChanged (start decimals) turns
   pub written : Appends old new (text_by told (start decimals) turns ++ end_of decimals bytes)
 
 -- what was written begins what is told of the script's first lines, and of its end where no line is left
 pub record SaysSome (told : Talk) (decimals : ℕ) (bytes : List ℕ) (old new : Option (List ℕ)) : Type 0 where
-  pub turns : List Turn
+  pub turns : List LineChanges
   pub left : List Line
   pub lines : lines_in turns ++ left ≡ all_lines bytes
   pub changed : HaveChanged (start decimals) turns
@@ -39,7 +39,7 @@ pub record TalksAll (told : Talk) (decimals : ℕ) (bytes : List ℕ) (old new :
 -- of the script so much was given, and the lines within the limit were replied to and told
 pub record TalksLines (told : Talk) (decimals : ℕ) (read : List ℕ) (old new : Outside) : Type 0 where
   pub gave : Gave read old new
-  pub turns : List Turn
+  pub turns : List LineChanges
   pub lines : lines_in turns ≡ lines_of (take limit read)
   pub changed : HaveChanged (start decimals) turns
   pub written : Appends old.held new.held (text_by told (start decimals) turns)

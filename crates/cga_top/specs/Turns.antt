@@ -8,19 +8,19 @@ use Rattle.cga_top.specs.Replies.{at_end, effect}
 use Rattle.cga_top.specs.State.{State, start}
 
 -- a line, and what it changed
-pub record Turn : Type 0 where
+pub record LineChanges : Type 0 where
   pub line : Line
   pub changes : Changes
 
-abbrev pub lines_in : List Turn → List Line
+abbrev pub lines_in : List LineChanges → List Line
 lines_in turns = map (λ turn. turn.line) turns
 
 -- what the lines of turns come to
-abbrev pub after : State → List Turn → State
+abbrev pub after : State → List LineChanges → State
 after s turns = (effect_of_all s (lines_in turns)).state
 
 -- of each turn the changes are those of its line
-abbrev pub HaveChanged : State → List Turn → Type 0
+abbrev pub HaveChanged : State → List LineChanges → Type 0
 HaveChanged s [] = Unit {0}
 HaveChanged s (turn ∷ turns) =
     HasChanged (effect s turn.line).works turn.changes × HaveChanged (effect s turn.line).state turns
@@ -30,7 +30,7 @@ abbrev pub Talk : Type 0
 Talk = Changes → List ℕ
 
 -- of each turn the reply to its line, and then what is told of its changes
-abbrev pub text_by : Talk → State → List Turn → List ℕ
+abbrev pub text_by : Talk → State → List LineChanges → List ℕ
 text_by told s [] = []
 text_by told s (turn ∷ turns) =
     ((effect s turn.line).reply ++ told turn.changes) ++ text_by told (effect s turn.line).state turns

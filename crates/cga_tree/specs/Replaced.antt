@@ -44,5 +44,5 @@ module _ {X : Type 0} where
     pub into : (c p : ℕ) (d : Seen X) → S c ≡ Some d → d.parent ≡ Some p → gone c ≡ true → p ≢ id → gone p ≡ true
     pub onto : (c p : ℕ) (d : Seen X) → S c ≡ Some d → d.parent ≡ Some p → gone p ≡ true → gone c ≡ true
     pub self : gone id ≡ false
-    pub came : (c : ℕ) → S c ≡ None → (T c ≡ None) ⊎ ((i : ℕ) × (slice_get now.children i ≡ Some c))
+    pub created : (c : ℕ) → S c ≡ None → (T c ≡ None) ⊎ ((i : ℕ) × (slice_get now.children i ≡ Some c))
     pub rest : (c : ℕ) (d : Seen X) → c ≢ id → S c ≡ Some d → T c ≡ (if gone c then None else Some d)

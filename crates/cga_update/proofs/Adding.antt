@@ -5,9 +5,9 @@ use Rattle.cga_index.specs.Tree.{Apart, Member}
 use Rattle.cga_order.specs.World.{Among}
 use Rattle.cga_rule.specs.declared.grammar.Grammar.{Grammar}
 use Rattle.cga_fraction.proofs.Door.{None-not-Some as none_some, eq_or_ne as nat_cases, lt_or_eq_from_lt_suc as at_or_below, same_Some as some_same}
-use Rattle.cga_forest.specs.declared.moved.Moved.{Moved}
+use Rattle.cga_forest.specs.declared.node_change.NodeChange.{NodeChange}
 use Rattle.cga_forest.specs.declared.node.Node.{Node}
-use Rattle.cga_forest.specs.Moved.{ListsMoved, ids_of, moved_of}
+use Rattle.cga_forest.specs.NodeChange.{ListsOnlyIn, ids_of, moved_of}
 use Rattle.cga_forest.specs.Placing.{IsRootNode}
 use Rattle.cga_forest.specs.View.{Seen}
 use Rattle.cga_forest.specs.Tree.{ForestView, HasNoLot, IsRootOf, KeepsMark, node_at, marked_at}
@@ -72,28 +72,29 @@ module _ (new : Sources) (old now : ForestView) (lot : Lot) (listed : (i : ℕ) 
     ];
   }
 
-  pub came_root : (W : View) (came : List Moved) → AreWithin W (node_at old) → ListsMoved (node_at old) W came
-      → ListsMoved (node_at now) W (came ++ moved_of id (top_seen n) ∷ [])
-  came_root W came within lists = record {
-    once = subst (λ (ids : List ℕ). Apart ids) (sym (ids_join came (moved_of id (top_seen n) ∷ []))) (apart_join (ids_of came) (id ∷ []) lists.once ((λ m. m), tt) both);
+  pub created_root : (W : View) (created : List NodeChange) → AreWithin W (node_at old)
+      → ListsOnlyIn (node_at old) W created
+      → ListsOnlyIn (node_at now) W (created ++ moved_of id (top_seen n) ∷ [])
+  created_root W created within lists = record {
+    once = subst (λ (ids : List ℕ). Apart ids) (sym (ids_join created (moved_of id (top_seen n) ∷ []))) (apart_join (ids_of created) (id ∷ []) lists.once ((λ m. m), tt) both);
     each = λ m. (to m, from m);
   }
     where
-      both : (k : ℕ) → Member (ids_of came) k → Member (id ∷ []) k → ⊥
+      both : (k : ℕ) → Member (ids_of created) k → Member (id ∷ []) k → ⊥
       both k a b =
-          let x = id_of came k a in
+          let x = id_of created k a in
           let p = (lists.each x.0).0 x.1 in
           let here : id ≡ k = elim b [ inl e ↦ e | inr r ↦ absurd r ] in
-          let same : p.0 ≡ id = sym (ap (λ (m : Moved). m.id) p.4) ∙ (x.2 ∙ sym here) in
+          let same : p.0 ≡ id = sym (ap (λ (m : NodeChange). m.id) p.4) ∙ (x.2 ∙ sym here) in
           apart p.0 p.1 p.2 same
 
       unlisted : (o : Option Seen) → W id ≡ o → W id ≡ None
       unlisted None is = is
       unlisted (Some d) is = none_some d (sym fresh ∙ within id d is)
 
-      to : (m : Moved) → Among m (came ++ moved_of id (top_seen n) ∷ [])
+      to : (m : NodeChange) → Among m (created ++ moved_of id (top_seen n) ∷ [])
           → (c : ℕ) × (d : Seen) × (node_at now c ≡ Some d) × (W c ≡ None) × (m ≡ moved_of c d)
-      to m h = elim (among_either came (moved_of id (top_seen n) ∷ []) m h) [
+      to m h = elim (among_either created (moved_of id (top_seen n) ∷ []) m h) [
         | inl a ↦ (let p = (lists.each m).0 a in (p.0, p.1, more_now p.0 p.1 p.2, p.3, p.4))
         | inr b ↦ elim b [
           | inl e ↦ (id, top_seen n, at, unlisted (W id) refl, sym e)
@@ -101,13 +102,13 @@ module _ (new : Sources) (old now : ForestView) (lot : Lot) (listed : (i : ℕ) 
         ]
       ]
 
-      from : (m : Moved) → ((c : ℕ) × (d : Seen) × (node_at now c ≡ Some d) × (W c ≡ None) × (m ≡ moved_of c d))
-          → Among m (came ++ moved_of id (top_seen n) ∷ [])
+      from : (m : NodeChange) → ((c : ℕ) × (d : Seen) × (node_at now c ≡ Some d) × (W c ≡ None) × (m ≡ moved_of c d))
+          → Among m (created ++ moved_of id (top_seen n) ∷ [])
       from m w = elim (nat_cases w.0 id) [
         | inl same ↦ (
             let seen : top_seen n ≡ w.1 = some_same (top_seen n) w.1 (sym at ∙ (ap (node_at now) (sym same) ∙ w.2)) in
-            among_right came (moved_of id (top_seen n) ∷ []) m (inl (sym (w.4 ∙ (ap (λ k. moved_of k w.1) same ∙ ap (λ (x : Seen). moved_of id x) (sym seen))))))
-        | inr other ↦ among_left came (moved_of id (top_seen n) ∷ []) m ((lists.each m).1 (w.0, w.1, sym (others w.0 other) ∙ w.2, w.3, w.4))
+            among_right created (moved_of id (top_seen n) ∷ []) m (inl (sym (w.4 ∙ (ap (λ k. moved_of k w.1) same ∙ ap (λ (x : Seen). moved_of id x) (sym seen))))))
+        | inr other ↦ among_left created (moved_of id (top_seen n) ∷ []) m ((lists.each m).1 (w.0, w.1, sym (others w.0 other) ∙ w.2, w.3, w.4))
       ]
 
 -- ---- as the calls tell it
@@ -132,16 +133,17 @@ module _ (new : Sources) (old now : ForestView) (lot : Lot) (listed : (i : ℕ) 
   pub there_at : (c : ℕ) × (d : Seen) × IsRootNamed (node_at now) lot.name c d
   there_at = (id, top_seen root.0, (root.2, refl, root_name lot root.0.shape root.1.shape))
 
-  pub came_at : (W : View) (came list : List Moved) → AreWithin W (node_at old) → ListsMoved (node_at old) W came
-      → ((d : Seen) → node_at now id ≡ Some d → list ≡ came ++ moved_of id d ∷ []) → ListsMoved (node_at now) W list
-  came_at W came list within lists is =
-      subst (λ xs. ListsMoved (node_at now) W xs) (sym (is (top_seen root.0) root.2))
-      (came_root new old now lot listed absent id root.0 root.1 root.2 fresh unmarked others W came within lists)
+  pub created_at : (W : View) (created list : List NodeChange) → AreWithin W (node_at old)
+      → ListsOnlyIn (node_at old) W created
+      → ((d : Seen) → node_at now id ≡ Some d → list ≡ created ++ moved_of id d ∷ []) → ListsOnlyIn (node_at now) W list
+  created_at W created list within lists is =
+      subst (λ xs. ListsOnlyIn (node_at now) W xs) (sym (is (top_seen root.0) root.2))
+      (created_root new old now lot listed absent id root.0 root.1 root.2 fresh unmarked others W created within lists)
 
 -- ---- one root after the other
 
-pub none_came : (T : View) → ListsMoved T T []
-none_came T = record {
+pub none_created : (T : View) → ListsOnlyIn T T []
+none_created T = record {
   once = tt;
   each = λ m. ((λ h. absurd h), (λ w. none_some w.1 (sym w.3 ∙ w.2)));
 }

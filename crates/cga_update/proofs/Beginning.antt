@@ -34,8 +34,8 @@ use Rattle.cga_shape.specs.Root.{root_of}
 use Rattle.cga_shape.specs.declared.shape.Shape.{Shape}
 use Rattle.cga_shape.specs.declared.shape_fault.ShapeFault.{ShapeFault}
 use Rattle.cga_shape.specs.declared.sources.Sources.{Sources}
-use Rattle.cga_forest.specs.declared.moved.Moved.{Moved}
-use Rattle.cga_forest.specs.Moved.{moved_of, primitive_of}
+use Rattle.cga_forest.specs.declared.node_change.NodeChange.{NodeChange}
+use Rattle.cga_forest.specs.NodeChange.{moved_of, primitive_of}
 use Rattle.cga_forest.specs.Node.{bounds}
 use Rattle.cga_forest.specs.View.{Seen}
 use Rattle.cga_forest.specs.Tree.{ForestView, marked_at, node_at}
@@ -43,7 +43,7 @@ use Rattle.cga_queue.specs.Agenda.{AgendaView, HasAll}
 use Rattle.cga_update.specs.Askers.{IsAsker}
 use Rattle.cga_update.specs.Edit.{asks_by, content, kept_nodes, meets_box, rules_of, shapes_of, the_edit}
 use Rattle.cga_depend.specs.Log.{noted_all}
-use Rattle.cga_update.specs.Log.{came_of, drawn_before, drawn_of, is_of, IsLogged, StayAlike, went_of}
+use Rattle.cga_update.specs.Log.{created_of, drawn_before, drawn_of, is_of, IsLogged, StayAlike, removed_of}
 use Rattle.cga_update.specs.Means.{ArePriced, told_ranked}
 use Rattle.cga_update.specs.Near.{KeepsPriorities}
 use Rattle.cga_update.specs.Plain.{IsPlain}
@@ -88,12 +88,12 @@ logged_none : (V : ℕ → Option Seen) → IsLogged V V []
 unfolding noted_all
 logged_none V s c = refl
 
-drawn_none : (ms : List Moved) → ((m : Moved) → Among m ms → m.primitive ≡ None) → drawn_of ms ≡ []
+drawn_none : (ms : List NodeChange) → ((m : NodeChange) → Among m ms → m.primitive ≡ None) → drawn_of ms ≡ []
 unfolding drawn_of
 drawn_none [] none = refl
 drawn_none (m ∷ ms) none = ap (λ o. drawn_before m o (drawn_of ms)) (none m (inl refl)) ∙ drawn_none ms (λ x h. none x (inr h))
 
-module _ {old new : Sources} {first v : ForestView} {d : DependentsView} {went came : List Moved} {a : AgendaView} (start : IsRooted old new first v d went came a) where
+module _ {old new : Sources} {first v : ForestView} {d : DependentsView} {removed created : List NodeChange} {a : AgendaView} (start : IsRooted old new first v d removed created a) where
   abbrev V : ℕ → Option Seen
   V = node_at first
 
@@ -113,10 +113,10 @@ module _ {old new : Sources} {first v : ForestView} {d : DependentsView} {went c
       | inr t ↦ t ∙ sym (ap (λ o. if not (is_some o) then None else Some x) t)
     ];
     along = λ c p x vc up. ap not (start.roots.along c p x vc up);
-    top = λ c x none at. (start.roots.came c x none at).top;
-    leaf = λ c x none at. (start.roots.came c x none at).leaf;
-    waits = λ c x none at. (start.roots.came c x none at).waits;
-    other = λ c b x y none at vb top shape priority. (start.roots.came c x none at).other b y vb top shape priority;
+    top = λ c x none at. (start.roots.created c x none at).top;
+    leaf = λ c x none at. (start.roots.created c x none at).leaf;
+    waits = λ c x none at. (start.roots.created c x none at).waits;
+    other = λ c b x y none at vb top shape priority. (start.roots.created c x none at).other b y vb top shape priority;
   }
 
   -- a node that was there is as it was
@@ -127,17 +127,17 @@ module _ {old new : Sources} {first v : ForestView} {d : DependentsView} {went c
     | inr t ↦ none_some x (sym t ∙ at)
   ]
 
-  pub came_on : (c : ℕ) (x : Seen) → V c ≡ None → T c ≡ Some x → on_of v a c ≡ true
-  came_on c x none at =
-      start.agenda.moved.roots c (moved_of c x, (start.listed.each (moved_of c x)).1 (c, x, at, none, refl), refl) (may_be_on v c x at (ap is_instance (start.roots.came c x none at).waits))
+  pub created_on : (c : ℕ) (x : Seen) → V c ≡ None → T c ≡ Some x → on_of v a c ≡ true
+  created_on c x none at =
+      start.agenda.moved.roots c (moved_of c x, (start.listed.each (moved_of c x)).1 (c, x, at, none, refl), refl) (may_be_on v c x at (ap is_instance (start.roots.created c x none at).waits))
 
   -- who asks near is on the agenda: it came, or was there at the mark
-  near_on : (list : List Moved) (m : Moved) → Among m list → HasAll (chains_of v) (IsAsker v list) a
+  near_on : (list : List NodeChange) (m : NodeChange) → Among m list → HasAll (chains_of v) (IsAsker v list) a
       → (c : ℕ) (x : Seen) → T c ≡ Some x → is_instance x.node.kind ≡ false → x.node.asks ≡ true
       → meets (box_of x.node.shape.scope) (box_of m.scope) ≡ true → on_of v a c ≡ true
   unfolding bounds
   near_on list m among near c x at inner asks meet = elim (was_there c x at (V c) refl) [
-    | inl none ↦ came_on c x none at
+    | inl none ↦ created_on c x none at
     | inr vc ↦
         let k : IsAsker v list c = record { seen = x; there = at; marked = ap is_some (start.roots.marked c ∙ vc); asks = asks; one = m; among = among; near = meet } in
         near c k (may_be_on v c x at inner)
@@ -153,7 +153,7 @@ module _ {old new : Sources} {first v : ForestView} {d : DependentsView} {went c
   changed_on : (c : ℕ) (x : Seen) → T c ≡ Some x → is_instance x.node.kind ≡ false
       → (on_of v a c ≡ true) ⊎ (setting_of old.grammar x.node.shape.symbol ≡ setting_of new.grammar x.node.shape.symbol)
   changed_on c x at inner = elim (was_there c x at (V c) refl) [
-    | inl none ↦ inl (came_on c x none at)
+    | inl none ↦ inl (created_on c x none at)
     | inr vc ↦ elim (start.agenda.changed x.node.shape.symbol) [
       | inl these ↦ inl (these c (listed_under c x vc inner) (may_be_on v c x at inner))
       | inr same ↦ inr same
@@ -163,19 +163,19 @@ module _ {old new : Sources} {first v : ForestView} {d : DependentsView} {went c
   is_first : theory.IsFirstAgenda (shapes_of new) content (rules_of old) (rules_of new) (asks_by new.grammar) meets_box
       V T (on_of v a)
   is_first = record {
-    came = came_on;
-    went = λ b c x y vb tb tc inner asks meet. near_on went (moved_of b x) ((start.roots.went.each (moved_of b x)).1 (b, x, vb, tb, refl)) start.agenda.moved.near_went c y tc inner asks meet;
-    arrived = λ b c x y vb tb tc inner asks meet. near_on came (moved_of b x) ((start.listed.each (moved_of b x)).1 (b, x, tb, vb, refl)) start.agenda.moved.near_came c y tc inner asks meet;
+    created = created_on;
+    removed = λ b c x y vb tb tc inner asks meet. near_on removed (moved_of b x) ((start.roots.removed.each (moved_of b x)).1 (b, x, vb, tb, refl)) start.agenda.moved.near_removed c y tc inner asks meet;
+    arrived = λ b c x y vb tb tc inner asks meet. near_on created (moved_of b x) ((start.listed.each (moved_of b x)).1 (b, x, tb, vb, refl)) start.agenda.moved.near_created c y tc inner asks meet;
     changed = changed_on;
     priced = λ c p x e tc up te inner. elim (was_there c x tc (V c) refl) [
-      | inl none ↦ none_some p (sym (start.roots.came c x none tc).top ∙ up)
+      | inl none ↦ none_some p (sym (start.roots.created c x none tc).top ∙ up)
       | inr vc ↦ elim (start.agenda.priced x.node.shape.symbol) [
         | inl parents ↦ inl (parents p (c, listed_under c x vc inner, (x, tc, up)) (may_be_on v p e te (start.laws.present.places.child c p x e tc up te).inner))
         | inr same ↦ inr (city.priced c x vc inner ∙ same)
       ]
     ];
     asking = λ c x tc inner. elim (was_there c x tc (V c) refl) [
-      | inl none ↦ inl (came_on c x none tc)
+      | inl none ↦ inl (created_on c x none tc)
       | inr vc ↦ elim (changed_on c x tc inner) [
         | inl on ↦ inl on
         | inr same ↦ inr (city.asking c x vc inner ∙ asks_by_same old.grammar new.grammar x.node.shape same)
@@ -204,7 +204,7 @@ module _ {old new : Sources} {first v : ForestView} {d : DependentsView} {went c
 
   new_city : tree.IsCity (shapes_of new) content (rules_of new) T
   new_city = rerooted_is_city (shapes_of new) content (rules_of old) (rules_of new) V T gone city.city start.laws.present.tree rerooted
-      (λ c x none at. let z = start.laws.present.places.root c x at (start.roots.came c x none at).top in record { inner = z.inner; path = z.path; line = z.line })
+      (λ c x none at. let z = start.laws.present.places.root c x at (start.roots.created c x none at).top in record { inner = z.inner; path = z.path; line = z.line })
       has_tops
 
   pub begins : tree.IsUnderway (shapes_of new) content (rules_of new) (asks_by new.grammar) T (on_of v a)
@@ -214,8 +214,8 @@ module _ {old new : Sources} {first v : ForestView} {d : DependentsView} {went c
       V T (length first.slots) (length v.slots) gone (on_of v a) (kept_bound first) (kept_bound v) city new_city rerooted is_first
 
   pub lost : (list : List (Drawn (Ranked Shape) Primitive)) × ListsLost content V T list
-      × (map told_ranked list ≡ drawn_of went)
-  lost = lists_lost V T (λ c b x y at of same. (same_node first start.first_laws c b x y at of (ap (λ (s : Shape). s.lot) same, ap (λ (s : Shape). s.path) same)).0) went start.roots.went
+      × (map told_ranked list ≡ drawn_of removed)
+  lost = lists_lost V T (λ c b x y at of same. (same_node first start.first_laws c b x y at of (ap (λ (s : Shape). s.lot) same, ap (λ (s : Shape). s.path) same)).0) removed start.roots.removed
 
   abbrev pub first_state : LoopState (Ranked Shape) Answers ShapeFault Primitive
   first_state = record { nodes = kept_nodes v; queued = begins.1.0; gone = lost.0; come = [] }
@@ -232,34 +232,34 @@ module _ {old new : Sources} {first v : ForestView} {d : DependentsView} {went c
 
   pub silent_now : (c : ℕ) (x : Seen) → T c ≡ Some x → is_instance x.node.kind ≡ true → x.node.asks ≡ false
   silent_now c x at drawn = elim (was_there c x at (V c) refl) [
-    | inl none ↦ (let z : false ≡ true = sym (ap is_instance (start.roots.came c x none at).waits) ∙ drawn in absurd (cc))
+    | inl none ↦ (let z : false ≡ true = sym (ap is_instance (start.roots.created c x none at).waits) ∙ drawn in absurd (cc))
     | inr vc ↦ start.stands.silent c x vc drawn
   ]
 
   pub priced_now : KeepsPriorities old.grammar new.grammar d → ArePriced new.grammar v
   priced_now same c x at inner = elim (was_there c x at (V c) refl) [
-    | inl none ↦ (has_tops.top c x at (start.roots.came c x none at).top).1
+    | inl none ↦ (has_tops.top c x at (start.roots.created c x none at).top).1
     | inr vc ↦ city.priced c x vc inner ∙ same x.node.shape.symbol c (listed_under c x vc inner)
   ]
 
   pub plain_now : (c : ℕ) (x : Seen) → T c ≡ Some x → IsPlain x
   plain_now c x at = elim (was_there c x at (V c) refl) [
     | inl none ↦ (
-        let n = start.roots.came c x none at in record {
+        let n = start.roots.created c x none at in record {
           bare = λ drawn. (let z : false ≡ true = sym (ap is_instance n.waits) ∙ drawn in absurd (cc));
           childless = inr n.leaf;
         })
     | inr vc ↦ start.stands.plain c x vc
   ]
 
-  pub came_drawn : drawn_of came ≡ []
-  came_drawn = drawn_none came (λ m h. let w = (start.listed.each m).0 h in
-      ap (λ (x : Moved). x.primitive) w.4 ∙ ap primitive_of (start.roots.came w.0 w.1 w.3 w.2).waits)
+  pub created_drawn : drawn_of created ≡ []
+  created_drawn = drawn_none created (λ m h. let w = (start.listed.each m).0 h in
+      ap (λ (x : NodeChange). x.primitive) w.4 ∙ ap primitive_of (start.roots.created w.0 w.1 w.3 w.2).waits)
 
-  pub logged : IsLogged (marked_at v) T (([] ++ went_of went) ++ came_of came)
+  pub logged : IsLogged (marked_at v) T (([] ++ removed_of removed) ++ created_of created)
   logged s c =
-      logged_more V V T [] went came (logged_none V) start.roots.went start.listed alike s c
-      ∙ ap (λ o. noted_all (([] ++ went_of went) ++ came_of came) s c (is_of o s)) (sym (start.roots.marked c))
+      logged_more V V T [] removed created (logged_none V) start.roots.removed start.listed alike s c
+      ∙ ap (λ o. noted_all (([] ++ removed_of removed) ++ created_of created) s c (is_of o s)) (sym (start.roots.marked c))
     where
       alike : StayAlike V T
       alike k x y t vc tc = elim (was_there k y tc (V k) refl) [

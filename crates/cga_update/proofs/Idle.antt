@@ -41,7 +41,7 @@ module _ (was : Work) (rest : AgendaView) (edit : TheEdit) (s : TheState) (means
       asking = λ c d t solid. elim (means.underway.asking c d t solid) [ inl q ↦ inl (same.there c q) | inr r ↦ inr r ];
     };
     queued = λ c d t. (λ q. same.there c ((means.queued c d t).0 q), λ q. (means.queued c d t).1 (same.back c q));
-    due = λ b c x d there on here came solid less. same.there c (means.due b c x d there (same.back b on) here came solid less);
+    due = λ b c x d there on here created solid less. same.there c (means.due b c x d there (same.back b on) here created solid less);
     remembered = λ c is. same.there c (means.remembered c is);
     all_queued = λ is b c x d there on here asks solid less. same.there c (means.all_queued is b c x d there (same.back b on) here asks solid less);
     priced = means.priced;

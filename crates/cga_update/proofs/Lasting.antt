@@ -9,7 +9,7 @@ use Rattle.cga_depend.specs.Pairs.{DependentsView}
 use Rattle.cga_order.specs.World.{is_instance}
 use Rattle.cga_rule.specs.declared.grammar.Grammar.{Grammar}
 use Rattle.cga_shape.specs.declared.sources.Sources.{Sources}
-use Rattle.cga_forest.specs.declared.moved.Moved.{Moved}
+use Rattle.cga_forest.specs.declared.node_change.NodeChange.{NodeChange}
 use Rattle.cga_forest.specs.Node.{chain_kept}
 use Rattle.cga_forest.specs.View.{Seen}
 use Rattle.cga_forest.specs.Tree.{ForestView, marked_at, node_at}
@@ -25,7 +25,7 @@ use Rattle.cga_update.proofs.Facts.{said_asks}
 use Rattle.cga_update.proofs.Moves.{some_one}
 use Rattle.cga_update.proofs.Rooting.{IsRooted}
 
-module _ {old new : Sources} {first v : ForestView} {d : DependentsView} {went came : List Moved} {a : AgendaView} (start : IsRooted old new first v d went came a) (mode : Mode) (last : Last) (told : IsTold mode v d old.grammar new.grammar last) where
+module _ {old new : Sources} {first v : ForestView} {d : DependentsView} {removed created : List NodeChange} {a : AgendaView} (start : IsRooted old new first v d removed created a) (mode : Mode) (last : Last) (told : IsTold mode v d old.grammar new.grammar last) where
   marked_there : (c : ℕ) (x : Seen) → node_at v c ≡ Some x → IsSome (marked_at v c) → node_at first c ≡ Some x
   marked_there c x at marked = elim (was_there start c x at (node_at first c) refl) [
     | inl none ↦ (let z : false ≡ true = ap is_some (sym (start.roots.marked c ∙ none)) ∙ marked in absurd (cc))

@@ -5,8 +5,8 @@ use Rattle.cga_index.specs.Tree.{Apart, Member}
 use Rattle.cga_order.specs.World.{Among}
 use Rattle.cga_forest.proofs.Door.{under_parent, under_step}
 use Rattle.cga_fraction.proofs.Door.{None-not-Some as none_some, same_Some as some_same}
-use Rattle.cga_forest.specs.declared.moved.Moved.{Moved}
-use Rattle.cga_forest.specs.Moved.{ListsBelow, ids_of, moved_of}
+use Rattle.cga_forest.specs.declared.node_change.NodeChange.{NodeChange}
+use Rattle.cga_forest.specs.NodeChange.{ListsBelow, ids_of, moved_of}
 use Rattle.cga_forest.specs.View.{Seen}
 use Rattle.cga_forest.specs.Tree.{ForestView, IsForest, IsRootOf, IsWithout, HasNoLot, KeepsMark, children_at, children_of, node_at, under}
 use Rattle.cga_forest.proofs.Door as walk
@@ -68,58 +68,58 @@ was_removed old new name r false absent there is only = absurd (absent refl r is
 was_removed old new name r true absent there is only = let w = there refl in subst (λ (k : ℕ). IsWithout old new k) (only w.0 w.1) w.2
 
 module _ (old new : ForestView) (root : ℕ) (r : Seen) (without : IsWithout old new root) (laws : IsForest old) (is : node_at old root ≡ Some r) (top : r.parent ≡ None) where
-  abbrev went_under : ℕ → Bool
-  went_under c = under (children_at old) 257 root c
+  abbrev removed_under : ℕ → Bool
+  removed_under c = under (children_at old) 257 root c
 
   pub less_after : (c : ℕ) (d : Seen) → node_at new c ≡ Some d → node_at old c ≡ Some d
-  less_after c d at = (cut_some (went_under c) (node_at old c) (node_at new c) d (without c) at).1
+  less_after c d at = (cut_some (removed_under c) (node_at old c) (node_at new c) d (without c) at).1
 
   pub gone_after : (name : List ℕ) → ((c : ℕ) → IsRootOf (node_at old) name c → c ≡ root) → (c : ℕ) (d : Seen)
       → IsRootNamed (node_at new) name c d → ⊥
   gone_after name only c d w =
-      let x = cut_some (went_under c) (node_at old c) (node_at new c) d (without c) w.0 in
+      let x = cut_some (removed_under c) (node_at old c) (node_at new c) d (without c) w.0 in
       let same : c ≡ root = only c (d, x.1, w.1, w.2) in
-      let z : true ≡ false = sym (under_own old root) ∙ (ap went_under (sym same) ∙ x.0) in absurd (cc)
+      let z : true ≡ false = sym (under_own old root) ∙ (ap removed_under (sym same) ∙ x.0) in absurd (cc)
 
   pub others_after : (c : ℕ) (d : Seen) → node_at old c ≡ Some d → d.parent ≡ None
       → (d.node.shape.lot ≡ r.node.shape.lot → ⊥) → node_at new c ≡ Some d
-  others_after c d at up other = by_under (went_under c) refl
+  others_after c d at up other = by_under (removed_under c) refl
     where
-      by_under : (b : Bool) → went_under c ≡ b → node_at new c ≡ Some d
+      by_under : (b : Bool) → removed_under c ≡ b → node_at new c ≡ Some d
       by_under true below =
           let same : c ≡ root = under_parent (children_at old) (node_at old) laws.present.tree (λ k x e. ap children_of e) 257 root c r d is at up below in
           let z : d ≡ r = some_same d r (sym at ∙ (ap (node_at old) same ∙ is)) in
           absurd (other (ap (λ (x : Seen). x.node.shape.lot) z))
       by_under false apart = without c ∙ (ap (λ (b : Bool). if b then None else node_at old c) apart ∙ at)
 
-  pub lost_more : (V : View) (went below : List Moved) → KeepsMark old new → ListsBelow old root below
-      → HasLost V old went → HasLost V new (went ++ below)
-  lost_more V went below mark listed lost = record {
+  pub lost_more : (V : View) (removed below : List NodeChange) → KeepsMark old new → ListsBelow old root below
+      → HasLost V old removed → HasLost V new (removed ++ below)
+  lost_more V removed below mark listed lost = record {
     marking = mark.0 ∙ lost.marking;
     marked = λ c. mark.1 lost.marking c ∙ lost.marked c;
     rest = λ c d v. elim (lost.rest c d v) [
-      | inl t ↦ cut_either (went_under c) (node_at old c) (node_at new c) d (without c) t
-      | inr t ↦ inr (cut_none (went_under c) (node_at old c) (node_at new c) (without c) t)
+      | inl t ↦ cut_either (removed_under c) (node_at old c) (node_at new c) d (without c) t
+      | inr t ↦ inr (cut_none (removed_under c) (node_at old c) (node_at new c) (without c) t)
     ];
-    none = λ c v. cut_none (went_under c) (node_at old c) (node_at new c) (without c) (lost.none c v);
-    along = λ c p d v up. cut_along (went_under c) (went_under p) (node_at old c) (node_at old p) (node_at new c) (node_at new p) (without c) (without p) (lost.along c p d v up)
+    none = λ c v. cut_none (removed_under c) (node_at old c) (node_at new c) (without c) (lost.none c v);
+    along = λ c p d v up. cut_along (removed_under c) (removed_under p) (node_at old c) (node_at old p) (node_at new c) (node_at new p) (without c) (without p) (lost.along c p d v up)
         (λ e at. elim (lost.rest c d v) [
           | inl t ↦ under_along old laws root r is top c p d t up
           | inr t ↦ none_some e (sym t ∙ at)
         ]);
-    went = record {
-      once = subst (λ (ids : List ℕ). Apart ids) (sym (ids_join went below)) (apart_join (ids_of went) (ids_of below) lost.went.once listed.once both);
+    removed = record {
+      once = subst (λ (ids : List ℕ). Apart ids) (sym (ids_join removed below)) (apart_join (ids_of removed) (ids_of below) lost.removed.once listed.once both);
       each = λ m. (to m, from m);
     };
   }
     where
-      both : (n : ℕ) → Member (ids_of went) n → Member (ids_of below) n → ⊥
+      both : (n : ℕ) → Member (ids_of removed) n → Member (ids_of below) n → ⊥
       both n a b =
-          let x = id_of went n a in
+          let x = id_of removed n a in
           let y = id_of below n b in
-          let p = (lost.went.each x.0).0 x.1 in
+          let p = (lost.removed.each x.0).0 x.1 in
           let q = (listed.each y.0).0 y.1 in
-          let same : p.0 ≡ q.0 = sym (ap (λ (m : Moved). m.id) p.4) ∙ (x.2 ∙ (sym y.2 ∙ ap (λ (m : Moved). m.id) q.4)) in
+          let same : p.0 ≡ q.0 = sym (ap (λ (m : NodeChange). m.id) p.4) ∙ (x.2 ∙ (sym y.2 ∙ ap (λ (m : NodeChange). m.id) q.4)) in
           none_some q.1 (sym p.3 ∙ (ap (node_at old) same ∙ q.2))
 
       known : (c : ℕ) (d : Seen) → node_at old c ≡ Some d → (o : Option Seen) → V c ≡ o → V c ≡ Some d
@@ -129,18 +129,18 @@ module _ (old new : ForestView) (root : ℕ) (r : Seen) (without : IsWithout old
         | inr t ↦ none_some d (sym t ∙ at)
       ]
 
-      to : (m : Moved) → Among m (went ++ below)
+      to : (m : NodeChange) → Among m (removed ++ below)
           → (c : ℕ) × (d : Seen) × (V c ≡ Some d) × (node_at new c ≡ None) × (m ≡ moved_of c d)
-      to m h = elim (among_either went below m h) [
-        | inl a ↦ (let p = (lost.went.each m).0 a in (p.0, p.1, p.2, cut_none (went_under p.0) (node_at old p.0) (node_at new p.0) (without p.0) p.3, p.4))
+      to m h = elim (among_either removed below m h) [
+        | inl a ↦ (let p = (lost.removed.each m).0 a in (p.0, p.1, p.2, cut_none (removed_under p.0) (node_at old p.0) (node_at new p.0) (without p.0) p.3, p.4))
         | inr b ↦ (let q = (listed.each m).0 b in (q.0, q.1, known q.0 q.1 q.2 (V q.0) refl, without q.0 ∙ ap (λ (b : Bool). if b then None else node_at old q.0) q.3, q.4))
       ]
 
-      from : (m : Moved) → ((c : ℕ) × (d : Seen) × (V c ≡ Some d) × (node_at new c ≡ None) × (m ≡ moved_of c d))
-          → Among m (went ++ below)
+      from : (m : NodeChange) → ((c : ℕ) × (d : Seen) × (V c ≡ Some d) × (node_at new c ≡ None) × (m ≡ moved_of c d))
+          → Among m (removed ++ below)
       from m w = elim (lost.rest w.0 w.1 w.2) [
-        | inl t ↦ among_right went below m ((listed.each m).1 (w.0, w.1, t, cut_gone (went_under w.0) (node_at old w.0) (node_at new w.0) w.1 (without w.0) t w.3, w.4))
-        | inr t ↦ among_left went below m ((lost.went.each m).1 (w.0, w.1, w.2, t, w.4))
+        | inl t ↦ among_right removed below m ((listed.each m).1 (w.0, w.1, t, cut_gone (removed_under w.0) (node_at old w.0) (node_at new w.0) w.1 (without w.0) t w.3, w.4))
+        | inr t ↦ among_left removed below m ((lost.removed.each m).1 (w.0, w.1, w.2, t, w.4))
       ]
 
 -- ---- as the calls tell it
@@ -176,6 +176,6 @@ module _ (old new : ForestView) (name : List ℕ) (o : Option ℕ) (each : (c : 
       → node_at new c ≡ Some d
   others_named c d at up other = others_after old new root root_is.0 without laws root_is.1 root_is.2 c d at up (λ e. other (e ∙ root_is.3))
 
-  pub lost_named : (V : View) (went below : List Moved) → KeepsMark old new → ListsBelow old root below
-      → HasLost V old went → HasLost V new (went ++ below)
+  pub lost_named : (V : View) (removed below : List NodeChange) → KeepsMark old new → ListsBelow old root below
+      → HasLost V old removed → HasLost V new (removed ++ below)
   lost_named = lost_more old new root root_is.0 without laws root_is.1 root_is.2

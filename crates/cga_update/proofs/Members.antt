@@ -2,8 +2,8 @@
 use Rattle.std.proofs.Common.{◌≡◌, ◌⊎◌, inl, inr, ℕ, List, [], ◌∷◌, ◌++◌, refl, ap}
 use Rattle.cga_index.specs.Tree.{Member}
 use Rattle.cga_order.specs.World.{Among}
-use Rattle.cga_forest.specs.declared.moved.Moved.{Moved}
-use Rattle.cga_forest.specs.Moved.{ids_of}
+use Rattle.cga_forest.specs.declared.node_change.NodeChange.{NodeChange}
+use Rattle.cga_forest.specs.NodeChange.{ids_of}
 
 pub among_either : {X : Type 0} (xs ys : List X) (x : X) → Among x (xs ++ ys) → Among x xs ⊎ Among x ys
 among_either [] ys x h = inr h
@@ -12,11 +12,11 @@ among_either (z ∷ xs) ys x h = elim h [
   | inr r ↦ elim (among_either xs ys x r) [ inl a ↦ inl (inr a) | inr b ↦ inr b ]
 ]
 
-pub ids_join : (xs ys : List Moved) → ids_of (xs ++ ys) ≡ ids_of xs ++ ids_of ys
+pub ids_join : (xs ys : List NodeChange) → ids_of (xs ++ ys) ≡ ids_of xs ++ ids_of ys
 ids_join [] ys = refl
 ids_join (x ∷ xs) ys = ap (λ (ids : List ℕ). x.id ∷ ids) (ids_join xs ys)
 
-pub id_of : (xs : List Moved) (n : ℕ) → Member (ids_of xs) n → (m : Moved) × Among m xs × (m.id ≡ n)
+pub id_of : (xs : List NodeChange) (n : ℕ) → Member (ids_of xs) n → (m : NodeChange) × Among m xs × (m.id ≡ n)
 id_of [] n h = absurd h
 id_of (x ∷ xs) n h = elim h [
   | inl e ↦ (x, inl refl, e)

@@ -84,21 +84,21 @@ module _ (old new : Sources) (differ : old.mode ≢ new.mode) (before after : Li
   counted : (n : ℕ) → CountsTouched (with_no_lots new) new [] after n → CountsTouched old new before after n
   counted n h = (h.0, h.1, λ s. (λ a. to_all s ((h.2 s).0 a), λ t. (h.2 s).1 (from_all s t)), h.3)
 
-  module _ (gone come both : Changes) (went : IsChange old (with_no_lots old) before [] gone) (came : IsChange (with_no_lots new) new [] after come) (gone_is : both.gone ≡ gone.gone) (come_is : both.come ≡ come.come) where
-    none_came : went.come ≡ []
-    none_came = none_among went.come (λ d h. (went.«record».each_come d h).0)
+  module _ (gone come both : Changes) (removed : IsChange old (with_no_lots old) before [] gone) (created : IsChange (with_no_lots new) new [] after come) (gone_is : both.gone ≡ gone.gone) (come_is : both.come ≡ come.come) where
+    none_created : removed.come ≡ []
+    none_created = none_among removed.come (λ d h. (removed.«record».each_come d h).0)
 
-    none_went : came.gone ≡ []
-    none_went = none_among came.gone (λ d h. (came.«record».each_gone d h).0)
+    none_removed : created.gone ≡ []
+    none_removed = none_among created.gone (λ d h. (created.«record».each_gone d h).0)
 
     balances : (test : reported.Drawn → Bool)
         → count_by test (instances before) + count_by test both.come ≡ count_by test (instances after) + count_by test
         both.gone
     balances test =
-        let a = went.balance test in
-        let b = came.balance test in
-        let no_come : count_by test gone.come ≡ 0 = ap (count_by test) (went.come_told ∙ ap (map told) none_came) in
-        let no_gone : count_by test come.gone ≡ 0 = ap (count_by test) (came.gone_told ∙ ap (map told) none_went) in
+        let a = removed.balance test in
+        let b = created.balance test in
+        let no_come : count_by test gone.come ≡ 0 = ap (count_by test) (removed.come_told ∙ ap (map told) none_created) in
+        let no_gone : count_by test come.gone ≡ 0 = ap (count_by test) (created.gone_told ∙ ap (map told) none_removed) in
         let c : count_by test both.come ≡ count_by test come.come = ap (count_by test) come_is in
         let d : count_by test both.gone ≡ count_by test gone.gone = ap (count_by test) gone_is in
         let z : count_by test (instances []) ≡ 0 = refl in
@@ -106,16 +106,16 @@ module _ (old new : Sources) (differ : old.mode ≢ new.mode) (before after : Li
 
     changed : IsChange old new before after both
     changed = record {
-      gone = went.gone;
-      come = came.come;
+      gone = removed.gone;
+      come = created.come;
       «record» = record {
-        gone_once = went.«record».gone_once;
-        come_once = came.«record».come_once;
-        each_come = λ d h. let w = came.«record».each_come d h in (w.0, (w.1.0, w.1.1, w.1.2, to_all w.1.0 w.1.3));
-        each_gone = λ d h. ((went.«record».each_gone d h).0, λ parent i non below keeps same. differ keeps.0);
+        gone_once = removed.«record».gone_once;
+        come_once = created.«record».come_once;
+        each_come = λ d h. let w = created.«record».each_come d h in (w.0, (w.1.0, w.1.1, w.1.2, to_all w.1.0 w.1.3));
+        each_gone = λ d h. ((removed.«record».each_gone d h).0, λ parent i non below keeps same. differ keeps.0);
       };
-      gone_told = gone_is ∙ went.gone_told;
-      come_told = come_is ∙ came.come_told;
+      gone_told = gone_is ∙ removed.gone_told;
+      come_told = come_is ∙ created.come_told;
       balance = balances;
     }
 

@@ -13,9 +13,9 @@ use Rattle.cga_order.specs.World.{Among, is_instance}
 use Rattle.cga_shape.specs.declared.sources.Sources.{Sources}
 use Rattle.cga_tree.specs.Replaced.{IsReplaced}
 use Rattle.cga_forest.specs.declared.change.Change.{Change}
-use Rattle.cga_forest.specs.declared.moved.Moved as moved
+use Rattle.cga_forest.specs.declared.node_change.NodeChange as moved
 use Rattle.cga_forest.specs.declared.node.Node.{Node}
-use Rattle.cga_forest.specs.Moved.{ListsMoved, moved_of}
+use Rattle.cga_forest.specs.NodeChange.{ListsOnlyIn, moved_of}
 use Rattle.cga_forest.specs.Node.{bounds, chain_kept, fits}
 use Rattle.cga_forest.specs.View.{Seen}
 use Rattle.cga_forest.specs.Tree.{ForestView, marked_at, node_at}
@@ -51,9 +51,10 @@ module _ (v w : ForestView) (new : Sources) (id : ℕ) (news : List Node) (e now
   still_on a c x d p q h = let z = on_from (chains_of v) a c h in on_to (chains_of w) a c z.0 (same_due c x d p q ∙ z.1) z.2
 
   -- a node that didn't go stays on an agenda
-  pub stays_on : (a : AgendaView) (went : List moved.Moved) → ListsMoved (node_at v) (node_at w) went → (c : ℕ)
-      → (IsOneOf went c → ⊥) → on_of v a c ≡ true → on_of w a c ≡ true
-  stays_on a went lists c stays on =
+  pub stays_on : (a : AgendaView) (removed : List moved.NodeChange) → ListsOnlyIn (node_at v) (node_at w) removed
+      → (c : ℕ)
+      → (IsOneOf removed c → ⊥) → on_of v a c ≡ true → on_of w a c ≡ true
+  stays_on a removed lists c stays on =
       let x = on_node v a c on in
       elim (option_cases (node_at w c)) [
         | inl none ↦ absurd (stays (moved_of c x.0, (lists.each (moved_of c x.0)).1 (c, x.0, x.1, none, refl), refl))
@@ -77,7 +78,7 @@ module _ (v w : ForestView) (new : Sources) (id : ℕ) (news : List Node) (e now
       kept_same false f r = some_one (node_at w c) x d (r ∙ ap (λ h. if h then None else Some x) f) b
 
   -- comers: what came since the mark and comes later is on the agenda before
-  module _ (was after : AgendaView) (mode : was.mode ≡ new.mode) (change : Change) (went : ListsMoved (node_at v) (node_at w) change.went) (came : ListsMoved (node_at w) (node_at v) change.came) (nobody : Bool) (followed : IsFollowed w id change nobody was after)
+  module _ (was after : AgendaView) (mode : was.mode ≡ new.mode) (change : Change) (removed : ListsOnlyIn (node_at v) (node_at w) change.removed) (created : ListsOnlyIn (node_at w) (node_at v) change.created) (nobody : Bool) (followed : IsFollowed w id change nobody was after)
       (comers : (c : ℕ) (d : Seen) → node_at v c ≡ Some d → marked_at w c ≡ None → is_instance d.node.kind ≡ false → IsAfter d → on_of v was c ≡ true) (left : nobody ≡ true → (c : ℕ) (d : Seen) → node_at v c ≡ Some d → IsSome (marked_at w c) → is_instance d.node.kind ≡ false → d.node.asks ≡ true → IsAfter d → on_of v was c ≡ true) where
     pub later_in : (c : ℕ) (d : Seen) → node_at w c ≡ Some d → is_instance d.node.kind ≡ false
         → stamp_cmp new.mode (chain_kept e.node) (chain_kept d.node) ≡ Less → ComesAfter (chains_of w) was.mode id c
@@ -90,15 +91,15 @@ module _ (v w : ForestView) (new : Sources) (id : ℕ) (news : List Node) (e now
     later_out c d here solid late =
         lt_is (stamp_cmp new.mode (chain_kept e.node) (chain_kept d.node)) (sym (ap (λ y. is_lt (stamp_cmp new.mode y (chain_kept d.node))) chain) ∙ sym (λ i. is_later (mode i) (due_is (node_at w id) now replaced.is still i) (due_is (node_at w c) d here solid i)) ∙ late)
 
-    came_on : (c : ℕ) (d : Seen) → node_at v c ≡ None → node_at w c ≡ Some d → is_instance d.node.kind ≡ false
+    created_on : (c : ℕ) (d : Seen) → node_at v c ≡ None → node_at w c ≡ Some d → is_instance d.node.kind ≡ false
         → on_of w after c ≡ true
-    came_on c d none here solid = followed.came c (moved_of c d, (came.each (moved_of c d)).1 (c, d, here, none, refl), refl) (may_be_on w c d here solid)
+    created_on c d none here solid = followed.created c (moved_of c d, (created.each (moved_of c d)).1 (c, d, here, none, refl), refl) (may_be_on w c d here solid)
 
     -- what was on it if it was there is on it after, as is what comes now
     pub later_on : (c : ℕ) (d : Seen) → node_at w c ≡ Some d → is_instance d.node.kind ≡ false → IsAfter d
         → (node_at v c ≡ Some d → on_of v was c ≡ true) → on_of w after c ≡ true
     later_on c d here solid less on = elim (option_cases (node_at v c)) [
-      | inl none ↦ came_on c d none here solid
+      | inl none ↦ created_on c d none here solid
       | inr p ↦
           let there : node_at v c ≡ Some d = p.1 ∙ ap Some (same_later c p.0 d p.1 here less) in
           followed.grows.kept c (still_on was c d d there here (on there))
@@ -109,7 +110,7 @@ module _ (v w : ForestView) (new : Sources) (id : ℕ) (news : List Node) (e now
     comer_on c d here unmarked solid less = later_on c d here solid less (λ there. comers c d there unmarked solid less)
 
     -- who asks and meets the box of one of the moved is on the agenda: it came, or was there at the mark
-    seen_by : (list : List moved.Moved) (m : moved.Moved) → Among m list
+    seen_by : (list : List moved.NodeChange) (m : moved.NodeChange) → Among m list
         → (nobody ≡ false
         → HasAll (chains_of w) (λ c. IsAsker w list c × ComesAfter (chains_of w) was.mode id c) after)
         → (c : ℕ) (d : Seen) → node_at w c ≡ Some d → is_instance d.node.kind ≡ false → d.node.asks ≡ true
@@ -135,25 +136,25 @@ module _ (v w : ForestView) (new : Sources) (id : ℕ) (news : List Node) (e now
         (on_of w after)
     is_moved = record {
       kept = λ c x d p q h. followed.grows.kept c (still_on was c x d p q h);
-      came = came_on;
-      went = λ b c x d there none here solid asks meet less.
-          seen_by change.went (moved_of b x) ((went.each (moved_of b x)).1 (b, x, there, none, refl)) followed.met_went c d here solid asks meet less;
+      created = created_on;
+      removed = λ b c x d there none here solid asks meet less.
+          seen_by change.removed (moved_of b x) ((removed.each (moved_of b x)).1 (b, x, there, none, refl)) followed.met_removed c d here solid asks meet less;
       arrived = λ b c x d none there here solid asks meet less.
-          seen_by change.came (moved_of b x) ((came.each (moved_of b x)).1 (b, x, there, none, refl)) followed.met_came c d here solid asks meet less;
+          seen_by change.created (moved_of b x) ((created.each (moved_of b x)).1 (b, x, there, none, refl)) followed.met_created c d here solid asks meet less;
       only = λ c d here h. elim (option_cases (node_at v c)) [
         | inl none ↦ inr (inl none)
         | inr p ↦ elim (followed.grows.only c h) [
           | inl y ↦ inl (p.0, p.1, was_on was c p.0 d p.1 here y)
           | inr r ↦ elim r [
-            | inl m ↦ inr (inl (came_none c m))
+            | inl m ↦ inr (inl (created_none c m))
             | inr late ↦ inr (inr (later_out c d here (solid_at c d here h) late))
           ]
         ]
       ];
     }
       where
-        came_none : (c : ℕ) → IsOneOf change.came c → node_at v c ≡ None
-        came_none c m = let z = (came.each m.0).0 m.1 in ap (node_at v) (sym m.2 ∙ ap (λ (x : moved.Moved). x.id) z.4) ∙ z.3
+        created_none : (c : ℕ) → IsOneOf change.created c → node_at v c ≡ None
+        created_none c m = let z = (created.each m.0).0 m.1 in ap (node_at v) (sym m.2 ∙ ap (λ (x : moved.NodeChange). x.id) z.4) ∙ z.3
 
         solid_at : (c : ℕ) (d : Seen) → node_at w c ≡ Some d → on_of w after c ≡ true → is_instance d.node.kind ≡ false
         solid_at c d here h =

@@ -8,7 +8,7 @@ use Rattle.cga_order.specs.World.{Among}
 use Rattle.cga_index.specs.Near.{ListsNear}
 use Rattle.cga_index.specs.Tree.{Member, all_nodes}
 use Rattle.cga_index.proofs.Door.{caller_in, in_lasting}
-use Rattle.cga_forest.specs.declared.moved.Moved.{Moved}
+use Rattle.cga_forest.specs.declared.node_change.NodeChange.{NodeChange}
 use Rattle.cga_forest.specs.View.{Seen}
 use Rattle.cga_forest.specs.Tree.{ForestView, IsForest, marked_at, node_at}
 use Rattle.cga_forest.specs.Walked.{asks_of, forest_tree, lasting_tree, own_of, was_marked}
@@ -17,24 +17,24 @@ use Rattle.cga_update.specs.Askers.{IsAsker, IsLasting, ListsAskers, boxes_of}
 use Rattle.cga_update.proofs.Members.{among_member, member_among}
 use Rattle.cga_order.proofs.Door.{Among-left as among_left, Among-right as among_right}
 
-near_some : (own : Box) (moved : List Moved) (m : Moved) → Among m moved → meets own (box_of m.scope) ≡ true
+near_some : (own : Box) (moved : List NodeChange) (m : NodeChange) → Among m moved → meets own (box_of m.scope) ≡ true
     → list_any (meets own) (boxes_of moved) ≡ true
 near_some own [] m h e = absurd h
 near_some own (x ∷ xs) m (inl s) e =
-    or_left (meets own (box_of x.scope)) (list_any (meets own) (boxes_of xs)) (ap (λ (k : Moved). meets own (box_of k.scope)) s ∙ e)
+    or_left (meets own (box_of x.scope)) (list_any (meets own) (boxes_of xs)) (ap (λ (k : NodeChange). meets own (box_of k.scope)) s ∙ e)
 near_some own (x ∷ xs) m (inr h) e =
     or_right (meets own (box_of x.scope)) (list_any (meets own) (boxes_of xs)) (near_some own xs m h e)
 
-near_first : (own : Box) (x : Moved) (xs : List Moved)
-    → (list_any (meets own) (boxes_of xs) ≡ true → (m : Moved) × Among m xs × (meets own (box_of m.scope) ≡ true))
+near_first : (own : Box) (x : NodeChange) (xs : List NodeChange)
+    → (list_any (meets own) (boxes_of xs) ≡ true → (m : NodeChange) × Among m xs × (meets own (box_of m.scope) ≡ true))
     → (b : Bool) → meets own (box_of x.scope) ≡ b → list_any (meets own) (boxes_of (x ∷ xs)) ≡ true
-    → (m : Moved) × Among m (x ∷ xs) × (meets own (box_of m.scope) ≡ true)
+    → (m : NodeChange) × Among m (x ∷ xs) × (meets own (box_of m.scope) ≡ true)
 near_first own x xs more true is h = (x, inl refl, is)
 near_first own x xs more false is h =
     let w = more (ap (λ b. b || list_any (meets own) (boxes_of xs)) (sym is) ∙ h) in (w.0, inr w.1, w.2)
 
-near_one : (own : Box) (moved : List Moved) → list_any (meets own) (boxes_of moved) ≡ true
-    → (m : Moved) × Among m moved × (meets own (box_of m.scope) ≡ true)
+near_one : (own : Box) (moved : List NodeChange) → list_any (meets own) (boxes_of moved) ≡ true
+    → (m : NodeChange) × Among m moved × (meets own (box_of m.scope) ≡ true)
 near_one own [] h = let z : false ≡ true = h in absurd (cc)
 near_one own (x ∷ xs) h = near_first own x xs (near_one own xs) (meets own (box_of x.scope)) refl h
 
@@ -43,7 +43,7 @@ asking : (o : Option Seen) → asks_of o ≡ true → (d : Seen) × (o ≡ Some 
 asking None h = let z : false ≡ true = h in absurd (cc)
 asking (Some d) h = (d, refl, h)
 
-pub lists_askers : (v : ForestView) → IsForest v → (moved : List Moved) (list : List ℕ)
+pub lists_askers : (v : ForestView) → IsForest v → (moved : List NodeChange) (list : List ℕ)
     → ListsNear (lasting_tree v) (boxes_of moved) list → ListsAskers v moved list
 lists_askers v f moved list lists = record {
   all = λ c k. member_among list c (lists.all c (record {
@@ -76,36 +76,37 @@ lists_lasting v f list is c k =
     member_among list c (subst (λ l. Member l c) (sym is) among)
 
 -- the boxes of both lists
-pub boxes_join : (went came : List Moved) → boxes_of (went ++ came) ≡ boxes_of went ++ boxes_of came
-boxes_join [] came = refl
-boxes_join (m ∷ went) came = ap (λ (boxes : List Box). box_of m.scope ∷ boxes) (boxes_join went came)
+pub boxes_join : (removed created : List NodeChange)
+    → boxes_of (removed ++ created) ≡ boxes_of removed ++ boxes_of created
+boxes_join [] created = refl
+boxes_join (m ∷ removed) created = ap (λ (boxes : List Box). box_of m.scope ∷ boxes) (boxes_join removed created)
 
 -- who asks near what went or near what came asks near either
-module _ (v : ForestView) (went came : List Moved) (c : ℕ) where
-  pub asker_went : IsAsker v went c → IsAsker v (went ++ came) c
-  asker_went k = record {
+module _ (v : ForestView) (removed created : List NodeChange) (c : ℕ) where
+  pub asker_removed : IsAsker v removed c → IsAsker v (removed ++ created) c
+  asker_removed k = record {
     seen = k.seen;
     there = k.there;
     marked = k.marked;
     asks = k.asks;
     one = k.one;
-    among = among_left went came k.one k.among;
+    among = among_left removed created k.one k.among;
     near = k.near;
   }
 
-  pub asker_came : IsAsker v came c → IsAsker v (went ++ came) c
-  asker_came k = record {
+  pub asker_created : IsAsker v created c → IsAsker v (removed ++ created) c
+  asker_created k = record {
     seen = k.seen;
     there = k.there;
     marked = k.marked;
     asks = k.asks;
     one = k.one;
-    among = among_right went came k.one k.among;
+    among = among_right removed created k.one k.among;
     near = k.near;
   }
 
 -- the list is lent
-module _ (v : ForestView) (moved : List Moved) (list lent : List ℕ) (same : lent ≡ list) (lists : ListsAskers v moved list) where
+module _ (v : ForestView) (moved : List NodeChange) (list lent : List ℕ) (same : lent ≡ list) (lists : ListsAskers v moved list) where
   pub asker_from : (c : ℕ) → Among c lent → IsAsker v moved c
   asker_from c h = lists.only c (subst (λ l. Among c l) same h)
 

@@ -3,7 +3,7 @@ use Rattle.std.proofs.Common.{◌≡◌, ◌⊎◌, inl, inr, ℕ, List, [], ◌
 use Rattle.cga_fraction.proofs.Door.{None-not-Some as none_some, same_Some as some_same}
 use Rattle.cga_order.specs.World.{Among}
 use Rattle.cga_order.proofs.Door.{Among-append, Among-left, Among-right}
-use Rattle.cga_forest.specs.declared.moved.Moved.{Moved}
+use Rattle.cga_forest.specs.declared.node_change.NodeChange.{NodeChange}
 use Rattle.cga_forest.specs.View.{Seen}
 use Rattle.cga_forest.specs.Tree.{ForestView, above, node_at}
 use Rattle.cga_queue.specs.Agenda.{AgendaView, Chains, Grows}
@@ -60,9 +60,9 @@ parents_only v ids n id a b at only has p m = elim (only p m) [ inl l ↦ has p 
 
 -- what is on the agenda of what moved stays on it
 pub moved_kept : (v : ForestView) (P : ℕ → Type 0) (a b : AgendaView) → Grows (chains_of v) P a b
-    → (went came : List Moved) → HasMoved v went came a → HasMoved v went came b
-moved_kept v P a b grows went came h = record {
-  roots = all_kept (chains_of v) (IsOneOf came) P a b grows h.roots;
-  near_went = all_kept (chains_of v) (IsAsker v went) P a b grows h.near_went;
-  near_came = all_kept (chains_of v) (IsAsker v came) P a b grows h.near_came;
+    → (removed created : List NodeChange) → HasMoved v removed created a → HasMoved v removed created b
+moved_kept v P a b grows removed created h = record {
+  roots = all_kept (chains_of v) (IsOneOf created) P a b grows h.roots;
+  near_removed = all_kept (chains_of v) (IsAsker v removed) P a b grows h.near_removed;
+  near_created = all_kept (chains_of v) (IsAsker v created) P a b grows h.near_created;
 }

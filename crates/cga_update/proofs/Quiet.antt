@@ -96,8 +96,8 @@ module _ (was now : Work) (rest : AgendaView) (id : ℕ) (x : Chain) (edit : The
       nodes = refl;
       underway = result.0;
       queued = result.1.1;
-      due = λ b c y d there on here came solid less. stay_due (HasCome was.forest) was.forest new was.agenda rest id x e least turn.here means.due c d
-          (record { here = here; one = came; solid = solid; less = (stamp_total new.mode).trans (chain_kept e.node) (chain_kept y.node) (chain_kept d.node) (taken.1.left b y there on).2 less });
+      due = λ b c y d there on here created solid less. stay_due (HasCome was.forest) was.forest new was.agenda rest id x e least turn.here means.due c d
+          (record { here = here; one = created; solid = solid; less = (stamp_total new.mode).trans (chain_kept e.node) (chain_kept y.node) (chain_kept d.node) (taken.1.left b y there on).2 less });
       remembered = remembered_rest (chains_of was.forest) was.remembered less was.agenda rest id x least means.remembered forgot;
       all_queued = λ is b c y d there on here asks solid less. stay_due (AsksStill was.forest) was.forest new was.agenda rest id x e least turn.here (means.all_queued is) c d
           (record { here = here; one = asks; solid = solid; less = (stamp_total new.mode).trans (chain_kept e.node) (chain_kept y.node) (chain_kept d.node) (taken.1.left b y there on).2 less });

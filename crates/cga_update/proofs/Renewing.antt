@@ -98,9 +98,9 @@ module _ (v w : ForestView) (f : IsForest v) (id : ℕ) (news : List Node) (e no
       let same = same_seen (node_at w c) d new.seen t new.here in
       (i, n, at, ap (λ (q : Seen). q.node) same ∙ new.node, ap (λ (q : Seen). q.children) same ∙ new.leaf)
 
-  came_seen : (c : ℕ) (d : Seen) (i : ℕ) → node_at w c ≡ Some d → node_at v c ≡ None
+  created_seen : (c : ℕ) (d : Seen) (i : ℕ) → node_at w c ≡ Some d → node_at v c ≡ None
       → (z : (n : Node) × (slice_get news i ≡ Some n) × IsChildNow (node_at v) (node_at w) id e gone n i c) → Comes d
-  came_seen c d i t none z = elim z.2 [
+  created_seen c d i t none z = elim z.2 [
     | inl old ↦ (let x = f.present.tree.down id i c e replaced.was old.0 in let y : None ≡ Some x.0 = sym none ∙ x.1 in cc)
     | inr new ↦ new_seen c d i z.0 t z.1 new.1
   ]
@@ -110,9 +110,9 @@ module _ (v w : ForestView) (f : IsForest v) (id : ℕ) (news : List Node) (e no
     | inl s ↦ inl (same_seen (node_at w c) d now t (ap (node_at w) s ∙ replaced.is))
     | inr other ↦ elim (option_cases (node_at v c)) [
       | inr p ↦ inr (inl (kept_seen c d p.0 t p.1 (gone c) refl (replaced.rest c p.0 other p.1)))
-      | inl none ↦ elim (replaced.came c none) [
+      | inl none ↦ elim (replaced.created c none) [
         | inl gone_too ↦ (let z : None ≡ Some d = sym gone_too ∙ t in cc)
-        | inr at ↦ inr (inr (came_seen c d at.0 t none (replaced.each at.0 c at.1)))
+        | inr at ↦ inr (inr (created_seen c d at.0 t none (replaced.each at.0 c at.1)))
       ]
     ]
   ]

@@ -5,10 +5,10 @@ use Rattle.std.proofs.lemmas.Option.{slice_get_within}
 use Rattle.cga_shape.specs.declared.lot.Lot.{Lot}
 use Rattle.cga_expand.specs.Derivation.{NamesDiffer}
 use Rattle.cga_fraction.proofs.Door.{None-not-Some as none_some, lt_or_eq_from_lt_suc as at_or_below, same_Some as some_same}
-use Rattle.cga_forest.specs.declared.moved.Moved.{Moved}
+use Rattle.cga_forest.specs.declared.node_change.NodeChange.{NodeChange}
 use Rattle.cga_forest.specs.declared.node.Node.{Node}
 use Rattle.cga_depend.specs.Pairs.{DependentsView}
-use Rattle.cga_forest.specs.Moved.{ListsMoved}
+use Rattle.cga_forest.specs.NodeChange.{ListsOnlyIn}
 use Rattle.cga_forest.specs.View.{Seen}
 use Rattle.cga_forest.specs.Tree.{ForestView, IsForest, node_at}
 use Rattle.cga_shape.specs.declared.shape.Shape.{Shape}
@@ -21,17 +21,17 @@ use Rattle.cga_update.specs.Roots.{View, AllWanted, AreWanted, AreThere, AreTher
 use Rattle.cga_update.proofs.Lots.{place_cases, root_name}
 
 -- an update at its beginning: how its roots were changed, and what is on its agenda
-pub record IsRooted (old new : Sources) (first v : ForestView) (d : DependentsView) (went came : List Moved) (a : AgendaView) : Type 0 where
+pub record IsRooted (old new : Sources) (first v : ForestView) (d : DependentsView) (removed created : List NodeChange) (a : AgendaView) : Type 0 where
   pub old_names : NamesDiffer old.lots
   pub names : NamesDiffer new.lots
   pub stands : StandsMarked old new first d
-  pub roots : IsRerooted (node_at first) v went
-  pub listed : ListsMoved (node_at v) (node_at first) came
+  pub roots : IsRerooted (node_at first) v removed
+  pub listed : ListsOnlyIn (node_at v) (node_at first) created
   pub wanted : AllWanted new v
   pub there : AreThere new v (length new.lots)
   pub first_laws : IsForest first
   pub laws : IsForest v
-  pub agenda : IsFirst old new v d went came a
+  pub agenda : IsFirst old new v d removed created a
 
 -- a node of an equal shape and priority is wanted too
 pub wanted_alike : (new : Sources) (n m : Node) → m.shape ≡ n.shape → m.priority ≡ n.priority → IsWanted new n
@@ -119,9 +119,9 @@ there_now new come before after there gains x is here i lot lt at = elim (place_
   | inr other ↦ (let w = there i lot at other in (w.0, w.1, (gains.more w.0 w.1 w.2.0, w.2.1, w.2.2)))
 ]
 
-module _ (new : Sources) (V : View) (first before after : ForestView) (went : List Moved)
+module _ (new : Sources) (V : View) (first before after : ForestView) (removed : List NodeChange)
     (is : (c : ℕ) → node_at first c ≡ V c) (up : (c p : ℕ) (d : Seen) → V c ≡ Some d → d.parent ≡ Some p → (e : Seen) × (V p ≡ Some e))
-    (lost : HasLost V before went) (loses : Loses new first before) (gains : Gains new before after) where
+    (lost : HasLost V before removed) (loses : Loses new first before) (gains : Gains new before after) where
   -- under a number of the mark no root came
   pub still : (c : ℕ) (d : Seen) → V c ≡ Some d → node_at after c ≡ node_at before c
   still c d v = by_slots (node_at before c) (node_at after c) refl refl
@@ -142,7 +142,7 @@ module _ (new : Sources) (V : View) (first before after : ForestView) (went : Li
             g.first b x (loses.wanted b x (is b ∙ vb) top w, top, ap (λ (s : Shape). s.lot) shape);
       }
 
-  pub rerooted : IsRerooted V after went
+  pub rerooted : IsRerooted V after removed
   rerooted = record {
     marking = gains.marking ∙ lost.marking;
     marked = λ c. gains.marked lost.marking c ∙ lost.marked c;
@@ -150,15 +150,15 @@ module _ (new : Sources) (V : View) (first before after : ForestView) (went : Li
       | inl t ↦ inl (gains.more c d t)
       | inr t ↦ inr (still c d v ∙ t)
     ];
-    came = new_root;
+    created = new_root;
     along = λ c p d v top.
         let e = up c p d v top in
         ap is_some (still c d v) ∙ (lost.along c p d v top ∙ sym (ap is_some (still p e.0 e.1)));
-    went = record {
-      once = lost.went.once;
+    removed = record {
+      once = lost.removed.once;
       each = λ m. (
-        (λ h. let w = (lost.went.each m).0 h in (w.0, w.1, w.2, still w.0 w.1 w.2 ∙ w.3, w.4)),
-        (λ w. (lost.went.each m).1 (w.0, w.1, w.2, sym (still w.0 w.1 w.2) ∙ w.3, w.4)),
+        (λ h. let w = (lost.removed.each m).0 h in (w.0, w.1, w.2, still w.0 w.1 w.2 ∙ w.3, w.4)),
+        (λ w. (lost.removed.each m).1 (w.0, w.1, w.2, sym (still w.0 w.1 w.2) ∙ w.3, w.4)),
       );
     };
   }

@@ -9,8 +9,8 @@ use Rattle.cga_expand.specs.Validity.{RootsExist}
 use Rattle.cga_shape.specs.Root.{root_of}
 use Rattle.cga_shape.specs.declared.shape.Shape.{Shape}
 use Rattle.cga_shape.specs.declared.sources.Sources.{Sources}
-use Rattle.cga_forest.specs.declared.moved.Moved.{Moved}
-use Rattle.cga_forest.specs.Moved.{ListsMoved}
+use Rattle.cga_forest.specs.declared.node_change.NodeChange.{NodeChange}
+use Rattle.cga_forest.specs.NodeChange.{ListsOnlyIn}
 use Rattle.cga_forest.specs.View.{Seen}
 use Rattle.cga_forest.specs.Tree.{ForestView, IsForest, node_at}
 use Rattle.cga_update.specs.Begun.{StandsMarked}
@@ -18,7 +18,7 @@ use Rattle.cga_update.specs.ChangedLots.{AreChanged, DifferAt}
 use Rattle.cga_update.specs.declared.changed_lots.ChangedLots.{ChangedLots}
 use Rattle.cga_update.specs.declared.changed_lots.ChangedLots.TheVariants as lots
 use Rattle.cga_update.specs.Roots.{AllWanted, AreThereBut, AreThereStill, Gains, HasLost, IsRerooted, IsRootFor, IsWanted, Loses}
-use Rattle.cga_update.proofs.Adding.{none_came}
+use Rattle.cga_update.proofs.Adding.{none_created}
 use Rattle.cga_update.proofs.RootShapes.{among_root}
 use Rattle.cga_update.proofs.Rooting.{rerooted as roots_changed, still}
 use Rattle.cga_update.proofs.Lots.{root_exists, root_name, scope_of_lot}
@@ -60,29 +60,31 @@ pub parent_there : (first : ForestView) → IsForest first → (c p : ℕ) (x : 
     → x.parent ≡ Some p → (e : Seen) × (node_at first p ≡ Some e)
 parent_there first laws c p x at up = let w = laws.present.tree.up c p x at up in (w.0, w.1)
 
-pub nothing_lost : (old new : Sources) (first : ForestView) (d : DependentsView) (none : List Moved) → none ≡ []
+pub nothing_lost : (old new : Sources) (first : ForestView) (d : DependentsView) (none : List NodeChange) → none ≡ []
     → StandsMarked old new first d → IsForest first → HasLost (node_at first) first none
-nothing_lost old new first d none is stands laws = subst (λ (list : List Moved). HasLost (node_at first) first list) (sym is) (record {
+nothing_lost old new first d none is stands laws = subst (λ (list : List NodeChange). HasLost (node_at first) first list) (sym is) (record {
   marking = stands.marking;
   marked = stands.marked;
   rest = λ c x at. inl at;
   none = λ c at. at;
   along = λ c p x at up. let e = parent_there first laws c p x at up in ap is_some at ∙ sym (ap is_some e.1);
-  went = none_came (node_at first);
+  removed = none_created (node_at first);
 })
 
-pub now_rerooted : (old new : Sources) (first before after : ForestView) (d : DependentsView) (went : List Moved)
+pub now_rerooted : (old new : Sources) (first before after : ForestView) (d : DependentsView)
+    (removed : List NodeChange)
     → StandsMarked old new first d → IsForest first
-    → HasLost (node_at first) before went → Loses new first before → Gains new before after
-    → IsRerooted (node_at first) after went
-now_rerooted old new first before after d went stands laws lost loses gains =
-    roots_changed new (node_at first) first before after went (λ c. refl) (parent_there first laws) lost loses gains
+    → HasLost (node_at first) before removed → Loses new first before → Gains new before after
+    → IsRerooted (node_at first) after removed
+now_rerooted old new first before after d removed stands laws lost loses gains =
+    roots_changed new (node_at first) first before after removed (λ c. refl) (parent_there first laws) lost loses gains
 
 -- what came since the roots went is what wasn't at the mark
-pub came_since : (V : ℕ → Option Seen) (before after : ForestView) (went came : List Moved) → HasLost V before went
+pub created_since : (V : ℕ → Option Seen) (before after : ForestView) (removed created : List NodeChange)
+    → HasLost V before removed
     → ((c : ℕ) (x : Seen) → V c ≡ Some x → node_at after c ≡ node_at before c)
-    → ListsMoved (node_at after) (node_at before) came → ListsMoved (node_at after) V came
-came_since V before after went came lost still lists = record {
+    → ListsOnlyIn (node_at after) (node_at before) created → ListsOnlyIn (node_at after) V created
+created_since V before after removed created lost still lists = record {
   once = lists.once;
   each = λ m. (
     (λ h. let w = (lists.each m).0 h in (w.0, w.1, w.2, unmarked w.0 w.1 w.2 w.3 (V w.0) refl, w.4)),

@@ -41,7 +41,7 @@ use Rattle.cga_expand.specs.Expand.{expand_of}
 use Rattle.cga_update.specs.Follow.{IsFollowed}
 use Rattle.cga_update.specs.Last.{AskersAreUpTo}
 use Rattle.cga_depend.specs.Log.{noted_all}
-use Rattle.cga_update.specs.Log.{IsLogged, StayAlike, came_of, drawn_of, is_of, went_of}
+use Rattle.cga_update.specs.Log.{IsLogged, StayAlike, created_of, drawn_of, is_of, removed_of}
 use Rattle.cga_update.specs.Means.{ArePriced, Means, told_ranked}
 use Rattle.cga_update.specs.Queue.{chains_of, on_of}
 use Rattle.cga_update.specs.Turned.{IsPlacing}
@@ -107,7 +107,7 @@ module _ (was now : Work) (rest : AgendaView) (id : ℕ) (x : Chain) (turned : T
   are_on c is =
       let left = turn.placed.1.forgot c is in
       let on = remembered_rest (chains_of was.forest) was.remembered less was.agenda rest id x least means.remembered forgot c left.0 in
-      stays_on was.forest now.forest new id news e after_e gone replaced inner still refl rest turn.placed.0.went turn.placed.1.went c left.1 on
+      stays_on was.forest now.forest new id news e after_e gone replaced inner still refl rest turn.placed.0.removed turn.placed.1.removed c left.1 on
 
   followed : IsFollowed now.forest id turn.placed.0 turn.placed.1.nobody rest now.agenda
   followed = turn.placed.1.followed are_on
@@ -120,8 +120,8 @@ module _ (was now : Work) (rest : AgendaView) (id : ℕ) (x : Chain) (turned : T
 
   comers : (c : ℕ) (d : Seen) → V c ≡ Some d → marked_at now.forest c ≡ None → is_instance d.node.kind ≡ false
       → IsAfter d → on_of was.forest rest c ≡ true
-  comers c d here came solid less = stay_due (HasCome was.forest) was.forest new was.agenda rest id x e least turn.here means.due c d
-      (record { here = here; one = sym (marks_stay c) ∙ came; solid = solid; less = less })
+  comers c d here created solid less = stay_due (HasCome was.forest) was.forest new was.agenda rest id x e least turn.here means.due c d
+      (record { here = here; one = sym (marks_stay c) ∙ created; solid = solid; less = less })
 
   was_marked : (c : ℕ) → IsSome (marked_at now.forest c) → IsSome (marked_at was.forest c)
   was_marked c marked = subst IsSome (marks_stay c) marked
@@ -144,7 +144,7 @@ module _ (was now : Work) (rest : AgendaView) (id : ℕ) (x : Chain) (turned : T
 
   -- what came is a child of the node, and so comes later
   born_later : (c : ℕ) (d : Seen) → V c ≡ None → T c ≡ Some d → IsAfter d
-  born_later c d none here = elim (replaced.came c none) [
+  born_later c d none here = elim (replaced.created c none) [
     | inl gone ↦ none_some d (sym gone ∙ here)
     | inr at ↦
         let w = turn.placed.1.forest.present.tree.down id at.0 c after_e replaced.is at.1 in
@@ -196,7 +196,7 @@ module _ (was now : Work) (rest : AgendaView) (id : ℕ) (x : Chain) (turned : T
     self_asks = said_asks g e.node.shape;
     are = are_news new e.node turn.outcome inner;
     outcome = told;
-    moved = is_moved was.forest now.forest new id news e after_e gone replaced inner still refl rest now.agenda (least.mode ∙ means.agenda_mode) turn.placed.0 turn.placed.1.went turn.placed.1.came turn.placed.1.nobody followed comers left;
+    moved = is_moved was.forest now.forest new id news e after_e gone replaced inner still refl rest now.agenda (least.mode ∙ means.agenda_mode) turn.placed.0 turn.placed.1.removed turn.placed.1.created turn.placed.1.nobody followed comers left;
   }
 
   abbrev Result : Type 0
@@ -214,19 +214,19 @@ module _ (was now : Work) (rest : AgendaView) (id : ℕ) (x : Chain) (turned : T
       → d.node.shape ≡ y.node.shape → c ≡ b
   one_node v f c b d y t u same = (same_node v f c b d y t u (ap (λ (q : Shape). q.lot) same, ap (λ (q : Shape). q.path) same)).0
 
-  went : (list : List (Drawn (Ranked Shape) Primitive)) × ListsLost content V T list
-      × (map told_ranked list ≡ drawn_of turn.placed.0.went)
-  went = lists_lost V T (one_node was.forest before) turn.placed.0.went turn.placed.1.went
+  removed : (list : List (Drawn (Ranked Shape) Primitive)) × ListsLost content V T list
+      × (map told_ranked list ≡ drawn_of turn.placed.0.removed)
+  removed = lists_lost V T (one_node was.forest before) turn.placed.0.removed turn.placed.1.removed
 
-  came : (list : List (Drawn (Ranked Shape) Primitive)) × ListsLost content T V list
-      × (map told_ranked list ≡ drawn_of turn.placed.0.came)
-  came = lists_lost T V (one_node now.forest turn.placed.1.forest) turn.placed.0.came turn.placed.1.came
+  created : (list : List (Drawn (Ranked Shape) Primitive)) × ListsLost content T V list
+      × (map told_ranked list ≡ drawn_of turn.placed.0.created)
+  created = lists_lost T V (one_node now.forest turn.placed.1.forest) turn.placed.0.created turn.placed.1.created
 
-  change : IsChange (kept_nodes was.forest) (kept_nodes now.forest) went.0 came.0
-  change = lists_are_changes.turn (shapes_of new) content (rules_of was.renewal.old.now) (rules_of new) (is_rules_edit was.renewal.old.now new was.renewal.old_names was.renewal.names) (by_symbol new) fits (asks_by g) meets_box is_fit V T (length was.forest.slots) (length now.forest.slots) id news e after_e gone (on_of was.forest was.agenda) (on_of was.forest rest) (on_of now.forest now.agenda) turned.expanded (kept_bound was.forest) (kept_bound now.forest) means.underway node_turn went.0 came.0 went.1 came.1
+  change : IsChange (kept_nodes was.forest) (kept_nodes now.forest) removed.0 created.0
+  change = lists_are_changes.turn (shapes_of new) content (rules_of was.renewal.old.now) (rules_of new) (is_rules_edit was.renewal.old.now new was.renewal.old_names was.renewal.names) (by_symbol new) fits (asks_by g) meets_box is_fit V T (length was.forest.slots) (length now.forest.slots) id news e after_e gone (on_of was.forest was.agenda) (on_of was.forest rest) (on_of now.forest now.agenda) turned.expanded (kept_bound was.forest) (kept_bound now.forest) means.underway node_turn removed.0 created.0 removed.1 created.1
 
   abbrev after : TheState
-  after = record { nodes = kept_nodes now.forest; queued = result.1.0; gone = s.gone ++ went.0; come = s.come ++ came.0 }
+  after = record { nodes = kept_nodes now.forest; queued = result.1.0; gone = s.gone ++ removed.0; come = s.come ++ created.0 }
 
   children_is : turned.children ≡ children_of (the_edit was.renewal.old.now new) (kept_nodes was.forest) (ranked e.node)
       turned.expanded
@@ -237,7 +237,7 @@ module _ (was now : Work) (rest : AgendaView) (id : ℕ) (x : Chain) (turned : T
 
   turns : (calls since : ℕ) → since ≡ calls + calls_of turned.expanded → Turns edit s after calls since turned.children
   turns calls since ticks =
-      let first : Turns (the_edit was.renewal.old.now new) (record { nodes = kept_nodes was.forest; queued = s.queued; gone = s.gone; come = s.come }) after calls since turned.children = (ranked e.node, turned.expanded, result.1.2, (went.0, came.0, change, refl, refl), children_is, ticks) in
+      let first : Turns (the_edit was.renewal.old.now new) (record { nodes = kept_nodes was.forest; queued = s.queued; gone = s.gone; come = s.come }) after calls since turned.children = (ranked e.node, turned.expanded, result.1.2, (removed.0, created.0, change, refl, refl), children_is, ticks) in
       let here : Turns (the_edit was.renewal.old.now new) s after calls since turned.children = subst (λ (st : TheState). Turns (the_edit was.renewal.old.now new) st after calls since turned.children) (λ i. record { nodes = sym means.nodes i; queued = s.queued; gone = s.gone; come = s.come }) first in
       subst (λ (ed : TheEdit). Turns ed s after calls since turned.children) (sym means.edit_is) here
 
@@ -257,8 +257,8 @@ module _ (was now : Work) (rest : AgendaView) (id : ℕ) (x : Chain) (turned : T
       kept_one false q r = let z : Some y ≡ Some d = sym u ∙ (r ∙ ap (λ h. if h then None else Some d) q) in cc
 
   log_is : IsLogged (marked_at was.forest) T
-      ((was.log.items ++ went_of turn.placed.0.went) ++ came_of turn.placed.0.came)
-  log_is = logged_more (marked_at was.forest) V T was.log.items turn.placed.0.went turn.placed.0.came means.logged turn.placed.1.went turn.placed.1.came alike
+      ((was.log.items ++ removed_of turn.placed.0.removed) ++ created_of turn.placed.0.created)
+  log_is = logged_more (marked_at was.forest) V T was.log.items turn.placed.0.removed turn.placed.0.created means.logged turn.placed.1.removed turn.placed.1.created alike
 
   to_new : (P : Bor Sources → Type 0) → P was.renewal.new → P now.renewal.new
   to_new P h = subst P (sym turn.placed.1.bounds.new) h
@@ -268,24 +268,24 @@ module _ (was now : Work) (rest : AgendaView) (id : ℕ) (x : Chain) (turned : T
 
   due_now : ComersAreDue new.mode now.forest now.agenda
   due_now =
-      still_due was.forest now.forest new id news e after_e gone replaced inner still refl rest now.agenda (least.mode ∙ means.agenda_mode) turn.placed.0 turn.placed.1.went turn.placed.1.came turn.placed.1.nobody followed comers left (HasCome now.forest)
-      (comer_on was.forest now.forest new id news e after_e gone replaced inner still refl rest now.agenda (least.mode ∙ means.agenda_mode) turn.placed.0 turn.placed.1.went turn.placed.1.came turn.placed.1.nobody followed comers left)
+      still_due was.forest now.forest new id news e after_e gone replaced inner still refl rest now.agenda (least.mode ∙ means.agenda_mode) turn.placed.0 turn.placed.1.removed turn.placed.1.created turn.placed.1.nobody followed comers left (HasCome now.forest)
+      (comer_on was.forest now.forest new id news e after_e gone replaced inner still refl rest now.agenda (least.mode ∙ means.agenda_mode) turn.placed.0 turn.placed.1.removed turn.placed.1.created turn.placed.1.nobody followed comers left)
       born_later (λ c x there on. (taken.1.left c x there on).2)
 
   asker_on : now.all_queued ≡ true → (c : ℕ) (d : Seen) → T c ≡ Some d → AsksStill now.forest c d
       → is_instance d.node.kind ≡ false → IsAfter d → on_of now.forest now.agenda c ≡ true
   asker_on is c d here asks solid less = elim (turn.placed.1.all_queued are_on is) [
     | inl all ↦
-        later_on was.forest now.forest new id news e after_e gone replaced inner still refl rest now.agenda (least.mode ∙ means.agenda_mode) turn.placed.0 turn.placed.1.went turn.placed.1.came turn.placed.1.nobody followed comers left c d here solid less
+        later_on was.forest now.forest new id news e after_e gone replaced inner still refl rest now.agenda (least.mode ∙ means.agenda_mode) turn.placed.0 turn.placed.1.removed turn.placed.1.created turn.placed.1.nobody followed comers left c d here solid less
         (λ there. askers all c d there asks solid less)
     | inr has ↦
-        let late = later_in was.forest now.forest new id news e after_e gone replaced inner still refl rest now.agenda (least.mode ∙ means.agenda_mode) turn.placed.0 turn.placed.1.went turn.placed.1.came turn.placed.1.nobody followed comers left c d here solid less in
+        let late = later_in was.forest now.forest new id news e after_e gone replaced inner still refl rest now.agenda (least.mode ∙ means.agenda_mode) turn.placed.0 turn.placed.1.removed turn.placed.1.created turn.placed.1.nobody followed comers left c d here solid less in
         has c (record { seen = d; there = here; marked = asks.0; asks = asks.1 }, late) (may_be_on now.forest c d here solid)
   ]
 
   askers_now : now.all_queued ≡ true → AskersAreDue new.mode now.forest now.agenda
   askers_now is =
-      still_due was.forest now.forest new id news e after_e gone replaced inner still refl rest now.agenda (least.mode ∙ means.agenda_mode) turn.placed.0 turn.placed.1.went turn.placed.1.came turn.placed.1.nobody followed comers left (AsksStill now.forest)
+      still_due was.forest now.forest new id news e after_e gone replaced inner still refl rest now.agenda (least.mode ∙ means.agenda_mode) turn.placed.0 turn.placed.1.removed turn.placed.1.created turn.placed.1.nobody followed comers left (AsksStill now.forest)
       (asker_on is) born_later (λ c x there on. (taken.1.left c x there on).2)
 
   means_now : Means now edit after
@@ -303,8 +303,8 @@ module _ (was now : Work) (rest : AgendaView) (id : ℕ) (x : Chain) (turned : T
     last = to_new (λ b. AskersAreUpTo b.now.mode now.last b.now.grammar now.forest) (subst (λ l. AskersAreUpTo new.mode l g now.forest) (sym turn.placed.1.bounds.last) up_to);
     silent = still_silent was.forest now.forest before g id turn.outcome e after_e gone replaced refl means.silent;
     plain = still_plain was.forest now.forest before g id turn.outcome e after_e gone replaced refl means.plain;
-    gone = turn.placed.1.gone ∙ (λ i. means.gone i ++ sym went.2 i) ∙ sym (map_both told_ranked s.gone went.0);
-    come = turn.placed.1.come ∙ (λ i. means.come i ++ sym came.2 i) ∙ sym (map_both told_ranked s.come came.0);
+    gone = turn.placed.1.gone ∙ (λ i. means.gone i ++ sym removed.2 i) ∙ sym (map_both told_ranked s.gone removed.0);
+    come = turn.placed.1.come ∙ (λ i. means.come i ++ sym created.2 i) ∙ sym (map_both told_ranked s.come created.0);
     symbols = to_new (λ b. now.symbols ≡ b.now.grammar) (turn.placed.1.bounds.symbols ∙ means.symbols);
     rules = to_new (λ b. now.rules ≡ b.now.grammar) (turn.placed.1.bounds.rules ∙ means.rules);
     grammars = to_new (λ b. now.grammars ≡ both now.renewal.old.now.grammar b.now.grammar) (to_old (λ b. now.grammars ≡ both b.now.grammar g) (turn.placed.1.bounds.grammars ∙ means.grammars));

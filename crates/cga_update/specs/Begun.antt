@@ -10,7 +10,7 @@ use Rattle.cga_rework.specs.Ranked.{Ranked}
 use Rattle.cga_shape.specs.declared.shape.Shape.{Shape}
 use Rattle.cga_shape.specs.declared.shape_fault.ShapeFault.{ShapeFault}
 use Rattle.cga_shape.specs.declared.sources.Sources.{Sources}
-use Rattle.cga_forest.specs.declared.moved.Moved.{Moved}
+use Rattle.cga_forest.specs.declared.node_change.NodeChange.{NodeChange}
 use Rattle.cga_forest.specs.View.{Seen}
 use Rattle.cga_forest.specs.Tree.{ForestView, marked_at, node_at}
 use Rattle.cga_update.specs.declared.work.Work.{Work}
@@ -51,14 +51,14 @@ pub record IsFresh (w : Work) : Type 0 where
   pub come : w.come.items ≡ []
 
 -- the roots that came are on the agenda, and those of the mark that ask near what went or came
-pub record HasMoved (v : ForestView) (went came : List Moved) (a : AgendaView) : Type 0 where
-  pub roots : HasAll (chains_of v) (IsOneOf came) a
-  pub near_went : HasAll (chains_of v) (IsAsker v went) a
-  pub near_came : HasAll (chains_of v) (IsAsker v came) a
+pub record HasMoved (v : ForestView) (removed created : List NodeChange) (a : AgendaView) : Type 0 where
+  pub roots : HasAll (chains_of v) (IsOneOf created) a
+  pub near_removed : HasAll (chains_of v) (IsAsker v removed) a
+  pub near_created : HasAll (chains_of v) (IsAsker v created) a
 
 -- the first agenda: these, and the nodes of changed symbols
-pub record IsFirst (old new : Sources) (v : ForestView) (d : DependentsView) (went came : List Moved) (a : AgendaView) : Type 0 where
-  pub moved : HasMoved v went came a
+pub record IsFirst (old new : Sources) (v : ForestView) (d : DependentsView) (removed created : List NodeChange) (a : AgendaView) : Type 0 where
+  pub moved : HasMoved v removed created a
   pub changed : (symbol : List ℕ) → IsChangedFor v old.grammar new.grammar (nodes_in d symbol) symbol a
   pub priced : (symbol : List ℕ) → IsPricedFor v old.grammar new.grammar (nodes_in d symbol) symbol a
 

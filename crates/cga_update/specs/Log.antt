@@ -5,10 +5,10 @@ use Rattle.cga_depend.specs.Log.{noted_all}
 use Rattle.cga_order.specs.World.{is_instance}
 use Rattle.cga_word.specs.declared.primitive.Primitive.{Primitive}
 use Rattle.cga_shape.specs.declared.drawn.Drawn.{Drawn}
-use Rattle.cga_forest.specs.declared.moved.Moved.{Moved}
+use Rattle.cga_forest.specs.declared.node_change.NodeChange.{NodeChange}
 use Rattle.cga_forest.specs.View.{Seen}
 use Rattle.cga_depend.specs.declared.log.Pairing.{Pairing}
-use Rattle.cga_depend.specs.declared.log.Pairing.TheVariants.{Came, Went}
+use Rattle.cga_depend.specs.declared.log.Pairing.TheVariants.{Created, Removed}
 
 -- ---- what the log says
 
@@ -23,15 +23,15 @@ IsLogged V T log = (s : List ℕ) (c : ℕ) → is_of (T c) s ≡ noted_all log 
 
 -- ---- what is noted of nodes that went or came
 
-abbrev pub drawn_as : Moved → Primitive → Drawn
+abbrev pub drawn_as : NodeChange → Primitive → Drawn
 drawn_as m p = record { lot = m.lot; symbol = m.symbol; primitive = p; scope = m.scope }
 
-abbrev pub drawn_before : Moved → Option Primitive → List Drawn → List Drawn
+abbrev pub drawn_before : NodeChange → Option Primitive → List Drawn → List Drawn
 drawn_before m None rest = rest
 drawn_before m (Some p) rest = drawn_as m p ∷ rest
 
 -- the instances among them
-unfoldable pub drawn_of : List Moved → List Drawn
+unfoldable pub drawn_of : List NodeChange → List Drawn
 drawn_of [] = []
 drawn_of (m ∷ ms) = drawn_before m m.primitive (drawn_of ms)
 
@@ -40,13 +40,13 @@ paired_before x None rest = x ∷ rest
 paired_before x (Some p) rest = rest
 
 -- the others, as they went, and as they came
-unfoldable pub went_of : List Moved → List Pairing
-went_of [] = []
-went_of (m ∷ ms) = paired_before (Went m.symbol m.id) m.primitive (went_of ms)
+unfoldable pub removed_of : List NodeChange → List Pairing
+removed_of [] = []
+removed_of (m ∷ ms) = paired_before (Removed m.symbol m.id) m.primitive (removed_of ms)
 
-unfoldable pub came_of : List Moved → List Pairing
-came_of [] = []
-came_of (m ∷ ms) = paired_before (Came m.symbol m.id) m.primitive (came_of ms)
+unfoldable pub created_of : List NodeChange → List Pairing
+created_of [] = []
+created_of (m ∷ ms) = paired_before (Created m.symbol m.id) m.primitive (created_of ms)
 
 -- a node that stays in both views is one of the same symbol
 abbrev pub StayAlike : (ℕ → Option Seen) → (ℕ → Option Seen) → Type 0

@@ -7,9 +7,9 @@ use Rattle.cga_shape.specs.Root.{root_of}
 use Rattle.cga_shape.specs.declared.lot.Lot.{Lot}
 use Rattle.cga_shape.specs.declared.sources.Sources.{Sources}
 use Rattle.cga_expand.specs.Derivation.{priority_of}
-use Rattle.cga_forest.specs.declared.moved.Moved.{Moved}
+use Rattle.cga_forest.specs.declared.node_change.NodeChange.{NodeChange}
 use Rattle.cga_forest.specs.declared.node.Node.{Node}
-use Rattle.cga_forest.specs.Moved.{ListsMoved}
+use Rattle.cga_forest.specs.NodeChange.{ListsOnlyIn}
 use Rattle.cga_forest.specs.View.{Seen}
 use Rattle.cga_forest.specs.Tree.{ForestView, node_at, marked_at}
 use Rattle.cga_update.specs.declared.changed_lots.ChangedLots.{ChangedLots}
@@ -57,13 +57,13 @@ abbrev pub IsRootNamed : View → List ℕ → ℕ → Seen → Type 0
 IsRootNamed T name c d = (T c ≡ Some d) × (d.parent ≡ None) × (d.node.shape.lot ≡ name)
 
 -- of the nodes V of the mark some roots went, each with all below it, which are listed; and nothing came
-pub record HasLost (V : View) (f : ForestView) (list : List Moved) : Type 0 where
+pub record HasLost (V : View) (f : ForestView) (list : List NodeChange) : Type 0 where
   pub marking : f.marking ≡ true
   pub marked : (c : ℕ) → marked_at f c ≡ V c
   pub rest : (c : ℕ) (d : Seen) → V c ≡ Some d → (node_at f c ≡ Some d) ⊎ (node_at f c ≡ None)
   pub none : (c : ℕ) → V c ≡ None → node_at f c ≡ None
   pub along : (c p : ℕ) (d : Seen) → V c ≡ Some d → d.parent ≡ Some p → is_some (node_at f c) ≡ is_some (node_at f p)
-  pub went : ListsMoved V (node_at f) list
+  pub removed : ListsOnlyIn V (node_at f) list
 
 -- a root that came: it waits, and isn't equal to a root of the mark
 pub record IsNewRoot (V : View) (d : Seen) : Type 0 where
@@ -74,13 +74,13 @@ pub record IsNewRoot (V : View) (d : Seen) : Type 0 where
       → x.node.priority ≡ d.node.priority → ⊥
 
 -- of the nodes V of the mark some roots went, each with all below it, which are listed; and roots came
-pub record IsRerooted (V : View) (f : ForestView) (list : List Moved) : Type 0 where
+pub record IsRerooted (V : View) (f : ForestView) (list : List NodeChange) : Type 0 where
   pub marking : f.marking ≡ true
   pub marked : (c : ℕ) → marked_at f c ≡ V c
   pub rest : (c : ℕ) (d : Seen) → V c ≡ Some d → (node_at f c ≡ Some d) ⊎ (node_at f c ≡ None)
-  pub came : (c : ℕ) (d : Seen) → V c ≡ None → node_at f c ≡ Some d → IsNewRoot V d
+  pub created : (c : ℕ) (d : Seen) → V c ≡ None → node_at f c ≡ Some d → IsNewRoot V d
   pub along : (c p : ℕ) (d : Seen) → V c ≡ Some d → d.parent ≡ Some p → is_some (node_at f c) ≡ is_some (node_at f p)
-  pub went : ListsMoved V (node_at f) list
+  pub removed : ListsOnlyIn V (node_at f) list
 
 -- nothing came, and what is wanted stays
 pub record Loses (sources : Sources) (before after : ForestView) : Type 0 where

@@ -16,7 +16,7 @@ use Rattle.cga_expand.specs.Expand.{expand_of}
 use Rattle.cga_expand.specs.Settings.{setting_of}
 use Rattle.cga_forest.specs.declared.change.Change.{Change}
 use Rattle.cga_forest.specs.declared.node.Node.{Node}
-use Rattle.cga_forest.specs.Moved.{ListsMoved}
+use Rattle.cga_forest.specs.NodeChange.{ListsOnlyIn}
 use Rattle.cga_forest.specs.Node.{chain_kept}
 use Rattle.cga_forest.specs.Placing.{Outcome, children_after, emitted, kind_after, state_after}
 use Rattle.cga_forest.specs.View.{Seen}
@@ -29,7 +29,7 @@ use Rattle.cga_queue.specs.Last.{IsPast}
 use Rattle.cga_queue.specs.Remembered.{AreOn, IsRemembered, RememberedView}
 use Rattle.cga_update.specs.Askers.{IsOneOf}
 use Rattle.cga_update.specs.Queue.{chains_of}
-use Rattle.cga_update.specs.Log.{came_of, drawn_of, went_of}
+use Rattle.cga_update.specs.Log.{created_of, drawn_of, removed_of}
 use Rattle.cga_update.specs.Means.{KeepsBounds}
 use Rattle.cga_update.specs.Plain.{IsPlain}
 
@@ -45,21 +45,21 @@ pub record IsPlaced (was now : Work) (id : ℕ) (answers : Answers) (outcome : O
       → Replaces (node_at was.forest) (node_at now.forest) id
       (state_after was.symbols e.node answers outcome) (children_after was.symbols e.node outcome)
   pub unmarked : (c : ℕ) → node_at was.forest c ≡ None → IsSome (node_at now.forest c) → marked_at was.forest c ≡ None
-  pub went : ListsMoved (node_at was.forest) (node_at now.forest) change.went
-  pub came : ListsMoved (node_at now.forest) (node_at was.forest) change.came
+  pub removed : ListsOnlyIn (node_at was.forest) (node_at now.forest) change.removed
+  pub created : ListsOnlyIn (node_at now.forest) (node_at was.forest) change.created
   pub nobody : Bool
   pub nobody_left : nobody ≡ true → HasNobodyLeft was id
   -- what is remembered of the agenda, less what went
   pub less : RememberedView
-  pub forgot : (c : ℕ) → IsRemembered less c → IsRemembered was.remembered c × (IsOneOf change.went c → ⊥)
+  pub forgot : (c : ℕ) → IsRemembered less c → IsRemembered was.remembered c × (IsOneOf change.removed c → ⊥)
   pub followed : AreOn (chains_of now.forest) less was.agenda
       → IsFollowed now.forest id change nobody was.agenda now.agenda
   pub remembered : AreOn (chains_of now.forest) less was.agenda → AreOn (chains_of now.forest) now.remembered now.agenda
   pub all_queued : AreOn (chains_of now.forest) less was.agenda → now.all_queued ≡ true
       → (was.all_queued ≡ true) ⊎ HasLaters now.forest id was.agenda.mode now.agenda
-  pub log : now.log.items ≡ (was.log.items ++ went_of change.went) ++ came_of change.came
-  pub gone : now.gone.items ≡ was.gone.items ++ drawn_of change.went
-  pub come : now.come.items ≡ was.come.items ++ drawn_of change.came
+  pub log : now.log.items ≡ (was.log.items ++ removed_of change.removed) ++ created_of change.created
+  pub gone : now.gone.items ≡ was.gone.items ++ drawn_of change.removed
+  pub come : now.come.items ≡ was.come.items ++ drawn_of change.created
   pub bounds : KeepsBounds was now
   pub forest : IsForest now.forest
 

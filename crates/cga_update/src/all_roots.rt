@@ -1,6 +1,6 @@
 //! The roots that go and come when an edit begins that changes all lots.
 ghost use Rattle.std.specs.Prelude.{◌≡◌, ℕ, ◌+◌, OnOk, length};
-ghost use Rattle.cga_forest.specs.Moved.{ListsMoved};
+ghost use Rattle.cga_forest.specs.NodeChange.{ListsOnlyIn};
 ghost use Rattle.cga_forest.specs.Tree.{node_at};
 ghost use Rattle.cga_shape.specs.Runs.{IsRunAt};
 ghost use Rattle.cga_update.specs.Roots.{AllWanted, AreByName, AreThere, AreWanted, AreWithin, Gains, HasLost, Loses, View};
@@ -9,7 +9,7 @@ use crate::lookup::lots_by_name;
 use crate::renewal::Renewal;
 use crate::roots::{add_root, clear_root};
 use cga_check::Symbols;
-use cga_forest::{Forest, Moved};
+use cga_forest::{Forest, NodeChange};
 use cga_fraction::NoMemory;
 use cga_shape::Lot;
 use cga_word::Name;
@@ -25,19 +25,19 @@ fn remove_run(
     renewal: Renewal,
     named: &IndexMap<Name, Lot>,
     run: &[Lot],
-    went: &mut Vec<Moved>,
+    removed: &mut Vec<NodeChange>,
 ) -> Result<(), NoMemory>
     requires symbols { symbols.old ≡ renewal.new.now.grammar }
     requires named { AreByName renewal.new.now.lots (length renewal.new.now.lots) named.now.entries }
     ensures symbols { symbols.new ≡ symbols.old }
-    ensures lost { OnOk result ((V : View) → HasLost V forest.old went.old.items → HasLost V forest.new went.new.items) }
+    ensures lost { OnOk result ((V : View) → HasLost V forest.old removed.old.items → HasLost V forest.new removed.new.items) }
     ensures wanted { OnOk result ((n : ℕ) → IsRunAt renewal.entry.old.now.lots n run.now → AreWanted renewal.entry.new.now renewal.entry.old.now.lots forest.old n → AreWanted renewal.entry.new.now renewal.entry.old.now.lots forest.new (n + length run.now)) }
     ensures loses { OnOk result (Loses renewal.entry.new.now forest.old forest.new) }
     ensures mode { forest.new.mode ≡ forest.old.mode }
 {
     for lot in run {
         let again = named.get(&lot.name);
-        clear_root(alloc, forest, again, symbols, renewal, lot.name, went)?;
+        clear_root(alloc, forest, again, symbols, renewal, lot.name, removed)?;
     }
     Ok(())
 }
@@ -48,12 +48,12 @@ pub fn remove_all(
     forest: &mut Forest,
     symbols: &mut Symbols,
     renewal: Renewal,
-    went: &mut Vec<Moved>,
+    removed: &mut Vec<NodeChange>,
 ) -> Result<(), NoMemory>
     requires symbols { symbols.old ≡ renewal.new.now.grammar }
     requires wanted { AllWanted renewal.old.now forest.old }
     ensures symbols { symbols.new ≡ symbols.old }
-    ensures lost { OnOk result ((V : View) → HasLost V forest.old went.old.items → HasLost V forest.new went.new.items) }
+    ensures lost { OnOk result ((V : View) → HasLost V forest.old removed.old.items → HasLost V forest.new removed.new.items) }
     ensures wanted { OnOk result (AllWanted renewal.entry.new.now forest.new) }
     ensures loses { OnOk result (Loses renewal.entry.new.now forest.old forest.new) }
     ensures mode { forest.new.mode ≡ forest.old.mode }
@@ -67,7 +67,7 @@ pub fn remove_all(
             renewal,
             &named,
             run.as_slice(),
-            went,
+            removed,
         )?;
     }
     Ok(())
@@ -79,18 +79,18 @@ fn add_run(
     symbols: &mut Symbols,
     renewal: Renewal,
     run: &[Lot],
-    came: &mut Vec<Moved>,
+    created: &mut Vec<NodeChange>,
 ) -> Result<(), NoMemory>
     requires symbols { symbols.old ≡ renewal.new.now.grammar }
     requires listed { (n : ℕ) × IsRunAt renewal.new.now.lots n run.now }
     ensures gains { OnOk result (Gains renewal.entry.new.now forest.old forest.new) }
     ensures there { OnOk result ((n : ℕ) → IsRunAt renewal.entry.new.now.lots n run.now → AreThere renewal.entry.new.now forest.old n → AreThere renewal.entry.new.now forest.new (n + length run.now)) }
-    ensures came { OnOk result ((W : View) → AreWithin W (node_at forest.old) → ListsMoved (node_at forest.old) W came.old.items → ListsMoved (node_at forest.new) W came.new.items) }
+    ensures created { OnOk result ((W : View) → AreWithin W (node_at forest.old) → ListsOnlyIn (node_at forest.old) W created.old.items → ListsOnlyIn (node_at forest.new) W created.new.items) }
     ensures mode { forest.new.mode ≡ forest.old.mode }
     ensures symbols { symbols.new ≡ symbols.old }
 {
     for lot in run {
-        add_root(forest, symbols, renewal.new, lot, came)?;
+        add_root(forest, symbols, renewal.new, lot, created)?;
     }
     Ok(())
 }
@@ -100,17 +100,17 @@ pub fn add_all(
     forest: &mut Forest,
     symbols: &mut Symbols,
     renewal: Renewal,
-    came: &mut Vec<Moved>,
+    created: &mut Vec<NodeChange>,
 ) -> Result<(), NoMemory>
     requires symbols { symbols.old ≡ renewal.new.now.grammar }
     ensures gains { OnOk result (Gains renewal.entry.new.now forest.old forest.new) }
     ensures there { OnOk result (AreThere renewal.entry.new.now forest.new (length renewal.entry.new.now.lots)) }
-    ensures came { OnOk result ((W : View) → AreWithin W (node_at forest.old) → ListsMoved (node_at forest.old) W came.old.items → ListsMoved (node_at forest.new) W came.new.items) }
+    ensures created { OnOk result ((W : View) → AreWithin W (node_at forest.old) → ListsOnlyIn (node_at forest.old) W created.old.items → ListsOnlyIn (node_at forest.new) W created.new.items) }
     ensures mode { forest.new.mode ≡ forest.old.mode }
     ensures symbols { symbols.new ≡ symbols.old }
 {
     for run in renewal.new.lots.runs() {
-        add_run(forest, symbols, renewal, run.as_slice(), came)?;
+        add_run(forest, symbols, renewal, run.as_slice(), created)?;
     }
     Ok(())
 }

@@ -4,7 +4,7 @@ ghost use Rattle.cga_order.specs.World.{Among};
 ghost use Rattle.cga_forest.specs.Walked.{lasting_tree};
 ghost use Rattle.cga_update.specs.Askers.{IsLasting, ListsAskers, boxes_of};
 
-use cga_forest::{Forest, Moved};
+use cga_forest::{Forest, NodeChange};
 use cga_fraction::{List, NoMemory, Tests};
 use cga_frame::WorldBox;
 use cga_index::{Lasting, LastingAskers, NodeId, all_nodes, queriers_near};
@@ -16,17 +16,17 @@ use std::sync::ledger::Ledger;
 pub fn askers_near<T: Ledger>(
     alloc: Global,
     forest: &Forest,
-    went: &[Moved],
-    came: &[Moved],
+    removed: &[NodeChange],
+    created: &[NodeChange],
     tests: &mut Tests<T>,
     looked: &mut usize,
 ) -> Result<List<NodeId>, NoMemory>
-    ensures { IfOk result (ListsAskers forest.now (went.now ++ came.now)) }
+    ensures { IfOk result (ListsAskers forest.now (removed.now ++ created.now)) }
 {
     forest.laws(); // for the proof
-    let mut areas = Vec::with_capacity(alloc, went.len() + came.len())?;
-    add_boxes(went, &mut areas)?;
-    add_boxes(came, &mut areas)?;
+    let mut areas = Vec::with_capacity(alloc, removed.len() + created.len())?;
+    add_boxes(removed, &mut areas)?;
+    add_boxes(created, &mut areas)?;
     queriers_near(
         alloc,
         &LastingAskers { tree: forest },
@@ -37,7 +37,7 @@ pub fn askers_near<T: Ledger>(
 }
 
 /// Appends their boxes. Takes memory.
-fn add_boxes(moved: &[Moved], boxes: &mut Vec<WorldBox>) -> Result<(), NoMemory>
+fn add_boxes(moved: &[NodeChange], boxes: &mut Vec<WorldBox>) -> Result<(), NoMemory>
     ensures { OnOk result (boxes.new.items ≡ boxes.old.items ++ boxes_of moved.now) }
 {
     for node in moved {

@@ -6,7 +6,7 @@ ghost use Rattle.cga_update.specs.Queue.{chains_of};
 ghost use Rattle.cga_update.specs.Begun.{HasBegun, HasMoved, IsBetween, IsFresh, StandsMarked};
 
 use crate::asking::last_asker;
-use crate::log::{note_came, note_went};
+use crate::log::{note_created, note_removed};
 use crate::queue::{add_moved, queue_changed, queue_near};
 use crate::renewal::Renewal;
 use crate::roots::{add_roots, remove_roots};
@@ -14,7 +14,7 @@ use crate::work::Work;
 use cga_check::Symbols;
 use cga_depend::{Dependents, Grammars};
 use cga_expand::RulesByPlace;
-use cga_forest::{Forest, Moved};
+use cga_forest::{Forest, NodeChange};
 use cga_fraction::{NoMemory, Tests};
 use cga_queue::{Agenda, Last, Remembered};
 use std::alloc::Global;
@@ -24,17 +24,17 @@ use std::sync::ledger::Ledger;
 fn queue_rooted<T: Ledger>(
     agenda: &mut Agenda,
     forest: &Forest,
-    went: &[Moved],
-    came: &[Moved],
+    removed: &[NodeChange],
+    created: &[NodeChange],
     tests: &mut Tests<T>,
 ) -> Result<(), NoMemory>
     requires one { OneEach (chains_of forest.now) }
-    ensures moved { OnOk result (HasMoved forest.now went.now came.now agenda.new) }
+    ensures moved { OnOk result (HasMoved forest.now removed.now created.now agenda.new) }
     ensures mode { OnOk result (agenda.new.mode ≡ agenda.old.mode) }
 {
-    add_moved(agenda, forest, came)?;
-    queue_near(agenda, forest, went, &[], tests)?;
-    queue_near(agenda, forest, &[], came, tests)
+    add_moved(agenda, forest, created)?;
+    queue_near(agenda, forest, removed, &[], tests)?;
+    queue_near(agenda, forest, &[], created, tests)
 }
 
 /// Takes the roots that go away, puts those that come there, and puts on the agenda what the change may reach. Takes
@@ -53,28 +53,28 @@ fn begin<T: Ledger>(
 {
     let alloc = work.alloc;
     let renewal = work.renewal;
-    let mut went = Vec::new(alloc);
+    let mut removed = Vec::new(alloc);
     work.forest.laws(); // for the proof
     remove_roots(
         alloc,
         &mut work.forest,
         &mut work.symbols,
         renewal,
-        &mut went,
+        &mut removed,
     )?;
     work.all_queued = work.forest.count() == 0;
-    let mut came = Vec::new(alloc);
-    add_roots(&mut work.forest, &mut work.symbols, renewal, &mut came)?;
-    let went_nodes = went.as_slice();
-    let came_nodes = came.as_slice();
-    note_went(went_nodes, &mut work.log, &mut work.gone)?;
-    note_came(came_nodes, &mut work.log, &mut work.come)?;
+    let mut created = Vec::new(alloc);
+    add_roots(&mut work.forest, &mut work.symbols, renewal, &mut created)?;
+    let removed_nodes = removed.as_slice();
+    let created_nodes = created.as_slice();
+    note_removed(removed_nodes, &mut work.log, &mut work.gone)?;
+    note_created(created_nodes, &mut work.log, &mut work.come)?;
     work.forest.laws(); // for the proof
     queue_rooted(
         &mut work.agenda,
         &work.forest,
-        went_nodes,
-        came_nodes,
+        removed_nodes,
+        created_nodes,
         tests,
     )?;
     let priced = queue_changed(

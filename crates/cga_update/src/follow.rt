@@ -9,7 +9,7 @@ ghost use Rattle.cga_update.specs.Queue.{chains_of};
 use crate::askers::{askers_near, lasting_askers};
 use crate::queue::add_moved;
 use crate::worked::Worked;
-use cga_forest::{Change, Forest, Moved};
+use cga_forest::{Change, Forest, NodeChange};
 use cga_fraction::{NoMemory, Tests};
 use cga_index::NodeId;
 use cga_queue::{Agenda, Remembered, add_later};
@@ -25,18 +25,18 @@ fn add_met<T: Ledger>(
     remembered: &mut Remembered,
     forest: &Forest,
     of: NodeId,
-    went: &[Moved],
-    came: &[Moved],
+    removed: &[NodeChange],
+    created: &[NodeChange],
     tests: &mut Tests<T>,
     looked: &mut usize,
 ) -> Result<(), NoMemory>
     requires one { OneEach (chains_of forest.now) }
-    ensures grows { OnOk result (Grows (chains_of forest.now) (λ c. IsAsker forest.now (went.now ++ came.now) c × ComesAfter (chains_of forest.now) agenda.old.mode of c) agenda.old agenda.new) }
+    ensures grows { OnOk result (Grows (chains_of forest.now) (λ c. IsAsker forest.now (removed.now ++ created.now) c × ComesAfter (chains_of forest.now) agenda.old.mode of c) agenda.old agenda.new) }
     ensures there { OnOk result (AreOn (chains_of forest.now) remembered.old agenda.old
-        → HasAll (chains_of forest.now) (λ c. IsAsker forest.now (went.now ++ came.now) c × ComesAfter (chains_of forest.now) agenda.old.mode of c) agenda.new) }
+        → HasAll (chains_of forest.now) (λ c. IsAsker forest.now (removed.now ++ created.now) c × ComesAfter (chains_of forest.now) agenda.old.mode of c) agenda.new) }
     ensures remembered { OnOk result (AreOn (chains_of forest.now) remembered.old agenda.old → AreOn (chains_of forest.now) remembered.new agenda.new) }
 {
-    let askers = askers_near(agenda.alloc(), forest, went, came, tests, looked)?;
+    let askers = askers_near(agenda.alloc(), forest, removed, created, tests, looked)?;
     add_later(
         agenda,
         remembered,
@@ -63,13 +63,15 @@ pub fn follow<T: Ledger>(
     ensures followed { OnOk result (AreOn (chains_of forest.now) remembered.old agenda.old → IsFollowed forest.now of change.now nobody agenda.old agenda.new) }
     ensures remembered { OnOk result (AreOn (chains_of forest.now) remembered.old agenda.old → AreOn (chains_of forest.now) remembered.new agenda.new) }
 {
-    let came = change.came.as_slice();
-    add_moved(agenda, forest, came)?;
+    let created = change.created.as_slice();
+    add_moved(agenda, forest, created)?;
     if nobody {
         return Ok(());
     }
-    let went = change.went.as_slice();
-    add_met(agenda, remembered, forest, of, went, came, tests, looked)
+    let removed = change.removed.as_slice();
+    add_met(
+        agenda, remembered, forest, of, removed, created, tests, looked,
+    )
 }
 
 /// Puts all nodes of the mark on it that ask and come later than another. Takes memory.
@@ -116,10 +118,10 @@ pub fn queue_rest(
 }
 
 /// Forgets nodes that went.
-pub fn forget_all(remembered: &mut Remembered, went: &[Moved])
-    ensures { (c : ℕ) → IsRemembered remembered.new c → IsRemembered remembered.old c × (IsOneOf went.now c → ⊥) }
+pub fn forget_all(remembered: &mut Remembered, removed: &[NodeChange])
+    ensures { (c : ℕ) → IsRemembered remembered.new c → IsRemembered remembered.old c × (IsOneOf removed.now c → ⊥) }
 {
-    for moved in went {
+    for moved in removed {
         remembered.forget(moved.id);
     }
 }

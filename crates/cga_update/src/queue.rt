@@ -10,7 +10,7 @@ ghost use Rattle.cga_update.specs.Queue.{chains_of};
 use crate::askers::askers_near;
 use crate::worked::Worked;
 use cga_depend::{Dependents, Grammars};
-use cga_forest::{Forest, Moved};
+use cga_forest::{Forest, NodeChange};
 use cga_fraction::{List, NoMemory, Tests};
 use cga_index::NodeId;
 use cga_queue::{Agenda, add, add_all};
@@ -18,7 +18,7 @@ use cga_word::Name;
 use std::sync::ledger::Ledger;
 
 /// Puts these nodes on it, where they are there and are no instances. Takes memory.
-pub fn add_moved(agenda: &mut Agenda, forest: &Forest, moved: &[Moved]) -> Result<(), NoMemory>
+pub fn add_moved(agenda: &mut Agenda, forest: &Forest, moved: &[NodeChange]) -> Result<(), NoMemory>
     requires one { OneEach (chains_of forest.now) }
     ensures grows { OnOk result (Grows (chains_of forest.now) (IsOneOf moved.now) agenda.old agenda.new) }
     ensures there { OnOk result (HasAll (chains_of forest.now) (IsOneOf moved.now) agenda.new) }
@@ -33,15 +33,15 @@ pub fn add_moved(agenda: &mut Agenda, forest: &Forest, moved: &[Moved]) -> Resul
 pub fn queue_near<T: Ledger>(
     agenda: &mut Agenda,
     forest: &Forest,
-    went: &[Moved],
-    came: &[Moved],
+    removed: &[NodeChange],
+    created: &[NodeChange],
     tests: &mut Tests<T>,
 ) -> Result<(), NoMemory>
     requires one { OneEach (chains_of forest.now) }
-    ensures grows { OnOk result (Grows (chains_of forest.now) (IsAsker forest.now (went.now ++ came.now)) agenda.old agenda.new) }
-    ensures there { OnOk result (HasAll (chains_of forest.now) (IsAsker forest.now (went.now ++ came.now)) agenda.new) }
+    ensures grows { OnOk result (Grows (chains_of forest.now) (IsAsker forest.now (removed.now ++ created.now)) agenda.old agenda.new) }
+    ensures there { OnOk result (HasAll (chains_of forest.now) (IsAsker forest.now (removed.now ++ created.now)) agenda.new) }
 {
-    let askers = askers_near(agenda.alloc(), forest, went, came, tests, &mut 0)?;
+    let askers = askers_near(agenda.alloc(), forest, removed, created, tests, &mut 0)?;
     add_all(agenda, &Worked { forest }, askers.as_slice())
 }
 

@@ -2,7 +2,7 @@
 ghost use Rattle.std.specs.Prelude.{◌≡◌, ℕ, ◌∷◌, ◌++◌, [], slice_get, Some, None, true, false, IfOk, OnOk, IsOk, length};
 ghost use Rattle.std.specs.Option.{option_copied};
 ghost use Rattle.cga_expand.specs.Derivation.{priority_of};
-ghost use Rattle.cga_forest.specs.Moved.{ListsMoved, moved_of};
+ghost use Rattle.cga_forest.specs.NodeChange.{ListsOnlyIn, moved_of};
 ghost use Rattle.cga_forest.specs.View.{Seen};
 ghost use Rattle.cga_forest.specs.Tree.{node_at};
 ghost use Rattle.cga_shape.specs.Root.{root_scope};
@@ -14,7 +14,7 @@ use crate::changed_lots::ChangedLots;
 use crate::lookup::{lot_at, lot_named};
 use crate::renewal::Renewal;
 use cga_check::Symbols;
-use cga_forest::{Forest, Moved, Node};
+use cga_forest::{Forest, Node, NodeChange};
 use cga_fraction::NoMemory;
 use cga_index::NodeId;
 use cga_shape::{Lot, Sources, equal_exactly, root_shape};
@@ -70,8 +70,12 @@ fn is_root_at(alloc: Global, forest: &Forest, id: NodeId, lot: &Lot, priority: u
 }
 
 /// Removes the root of that name with all below it, and lists them. Takes memory.
-fn remove_root(forest: &mut Forest, name: Name, went: &mut Vec<Moved>) -> Result<(), NoMemory>
-    ensures lost { OnOk result ((V : View) → HasLost V forest.old went.old.items → HasLost V forest.new went.new.items) }
+fn remove_root(
+    forest: &mut Forest,
+    name: Name,
+    removed: &mut Vec<NodeChange>,
+) -> Result<(), NoMemory>
+    ensures lost { OnOk result ((V : View) → HasLost V forest.old removed.old.items → HasLost V forest.new removed.new.items) }
     ensures gone { OnOk result ((c : ℕ) (d : Seen) → IsRootNamed (node_at forest.new) name c d → ⊥) }
     ensures less { OnOk result ((c : ℕ) (d : Seen) → node_at forest.new c ≡ Some d → node_at forest.old c ≡ Some d) }
     ensures others { OnOk result ((c : ℕ) (d : Seen) → node_at forest.old c ≡ Some d → d.parent ≡ None → (d.node.shape.lot ≡ name → ⊥) → node_at forest.new c ≡ Some d) }
@@ -82,7 +86,7 @@ fn remove_root(forest: &mut Forest, name: Name, went: &mut Vec<Moved>) -> Result
         return Ok(());
     };
     let below = forest.below(root)?;
-    went.extend_from_slice(below.as_slice())?;
+    removed.extend_from_slice(below.as_slice())?;
     forest.remove_lot(name);
     Ok(())
 }
@@ -95,12 +99,12 @@ pub fn clear_root(
     symbols: &mut Symbols,
     renewal: Renewal,
     name: Name,
-    went: &mut Vec<Moved>,
+    removed: &mut Vec<NodeChange>,
 ) -> Result<(), NoMemory>
     requires symbols { symbols.old ≡ renewal.new.now.grammar }
     requires lot { IsLotNamed renewal.new.now.lots name (option_copied lot) }
     ensures symbols { symbols.new ≡ symbols.old }
-    ensures lost { OnOk result ((V : View) → HasLost V forest.old went.old.items → HasLost V forest.new went.new.items) }
+    ensures lost { OnOk result ((V : View) → HasLost V forest.old removed.old.items → HasLost V forest.new removed.new.items) }
     ensures wanted { OnOk result ((c : ℕ) (d : Seen) → IsRootNamed (node_at forest.new) name c d → IsWanted renewal.entry.new.now d.node) }
     ensures loses { OnOk result (Loses renewal.entry.new.now forest.old forest.new) }
     ensures mode { forest.new.mode ≡ forest.old.mode }
@@ -108,7 +112,7 @@ pub fn clear_root(
     if is_wanted(alloc, forest, lot, symbols, renewal, name)? {
         return Ok(());
     }
-    remove_root(forest, name, went)?;
+    remove_root(forest, name, removed)?;
     Ok(())
 }
 
@@ -121,13 +125,13 @@ fn remove_changed(
     renewal: Renewal,
     gone: Option<usize>,
     come: Option<usize>,
-    went: &mut Vec<Moved>,
+    removed: &mut Vec<NodeChange>,
 ) -> Result<(), NoMemory>
     requires symbols { symbols.old ≡ renewal.new.now.grammar }
     requires wanted { AllWanted renewal.old.now forest.old }
     requires differ { DifferAt renewal.old.now renewal.new.now gone come }
     ensures symbols { symbols.new ≡ symbols.old }
-    ensures lost { OnOk result ((V : View) → HasLost V forest.old went.old.items → HasLost V forest.new went.new.items) }
+    ensures lost { OnOk result ((V : View) → HasLost V forest.old removed.old.items → HasLost V forest.new removed.new.items) }
     ensures wanted { OnOk result (AllWanted renewal.entry.new.now forest.new) }
     ensures loses { OnOk result (Loses renewal.entry.new.now forest.old forest.new) }
     ensures mode { forest.new.mode ≡ forest.old.mode }
@@ -136,7 +140,7 @@ fn remove_changed(
         return Ok(());
     };
     let again = lot_named(&renewal.new.lots, come, lot.name);
-    clear_root(alloc, forest, again, symbols, renewal, lot.name, went)?;
+    clear_root(alloc, forest, again, symbols, renewal, lot.name, removed)?;
     Ok(())
 }
 
@@ -146,12 +150,12 @@ pub fn remove_roots(
     forest: &mut Forest,
     symbols: &mut Symbols,
     renewal: Renewal,
-    went: &mut Vec<Moved>,
+    removed: &mut Vec<NodeChange>,
 ) -> Result<(), NoMemory>
     requires symbols { symbols.old ≡ renewal.new.now.grammar }
     requires wanted { AllWanted renewal.old.now forest.old }
     ensures symbols { symbols.new ≡ symbols.old }
-    ensures lost { OnOk result ((V : View) → HasLost V forest.old went.old.items → HasLost V forest.new went.new.items) }
+    ensures lost { OnOk result ((V : View) → HasLost V forest.old removed.old.items → HasLost V forest.new removed.new.items) }
     ensures wanted { OnOk result (AllWanted renewal.entry.new.now forest.new) }
     ensures loses { OnOk result (Loses renewal.entry.new.now forest.old forest.new) }
     ensures mode { forest.new.mode ≡ forest.old.mode }
@@ -159,9 +163,9 @@ pub fn remove_roots(
     match renewal.changed {
         ChangedLots::Nothing => Ok(()),
         ChangedLots::One(gone, come) => {
-            remove_changed(alloc, forest, symbols, renewal, gone, come, went)
+            remove_changed(alloc, forest, symbols, renewal, gone, come, removed)
         }
-        ChangedLots::All => remove_all(alloc, forest, symbols, renewal, went),
+        ChangedLots::All => remove_all(alloc, forest, symbols, renewal, removed),
     }
 }
 
@@ -171,14 +175,14 @@ pub fn add_root(
     symbols: &mut Symbols,
     new: &Sources,
     lot: &Lot,
-    came: &mut Vec<Moved>,
+    created: &mut Vec<NodeChange>,
 ) -> Result<(), NoMemory>
     requires symbols { symbols.old ≡ new.now.grammar }
     requires listed { (i : ℕ) × (slice_get new.now.lots i ≡ Some lot.now) }
     requires scope { IsOk (root_scope lot.now) }
     ensures gains { OnOk result (Gains new.now forest.old forest.new) }
     ensures there { OnOk result ((c : ℕ) × (d : Seen) × IsRootNamed (node_at forest.new) lot.now.name c d) }
-    ensures came { OnOk result ((W : View) → AreWithin W (node_at forest.old) → ListsMoved (node_at forest.old) W came.old.items → ListsMoved (node_at forest.new) W came.new.items) }
+    ensures created { OnOk result ((W : View) → AreWithin W (node_at forest.old) → ListsOnlyIn (node_at forest.old) W created.old.items → ListsOnlyIn (node_at forest.new) W created.new.items) }
     ensures mode { forest.new.mode ≡ forest.old.mode }
     ensures symbols { symbols.new ≡ symbols.old }
 {
@@ -186,15 +190,15 @@ pub fn add_root(
         return Ok(());
     }
     let root = forest.add_lot(lot, symbols)?;
-    list_node(forest, root, came)
+    list_node(forest, root, created)
 }
 
 /// Lists a node. Takes memory.
-fn list_node(forest: &Forest, id: NodeId, list: &mut Vec<Moved>) -> Result<(), NoMemory>
+fn list_node(forest: &Forest, id: NodeId, list: &mut Vec<NodeChange>) -> Result<(), NoMemory>
     ensures { OnOk result ((d : Seen) → node_at forest.now id ≡ Some d → list.new.items ≡ list.old.items ++ moved_of id d ∷ []) }
 {
     if let Some(node) = forest.node(id) {
-        list.push(Moved::of(id.number() as usize, node))?;
+        list.push(NodeChange::of(id.number() as usize, node))?;
     }
     Ok(())
 }
@@ -205,20 +209,20 @@ fn add_changed(
     symbols: &mut Symbols,
     renewal: Renewal,
     come: Option<usize>,
-    came: &mut Vec<Moved>,
+    created: &mut Vec<NodeChange>,
 ) -> Result<(), NoMemory>
     requires symbols { symbols.old ≡ renewal.new.now.grammar }
     requires there { AreThereBut come renewal.new.now forest.old }
     ensures gains { OnOk result (Gains renewal.entry.new.now forest.old forest.new) }
     ensures there { OnOk result (AreThere renewal.entry.new.now forest.new (length renewal.entry.new.now.lots)) }
-    ensures came { OnOk result ((W : View) → AreWithin W (node_at forest.old) → ListsMoved (node_at forest.old) W came.old.items → ListsMoved (node_at forest.new) W came.new.items) }
+    ensures created { OnOk result ((W : View) → AreWithin W (node_at forest.old) → ListsOnlyIn (node_at forest.old) W created.old.items → ListsOnlyIn (node_at forest.new) W created.new.items) }
     ensures mode { forest.new.mode ≡ forest.old.mode }
     ensures symbols { symbols.new ≡ symbols.old }
 {
     let Some(lot) = lot_at(&renewal.new.lots, come) else {
         return Ok(());
     };
-    add_root(forest, symbols, renewal.new, lot, came)?;
+    add_root(forest, symbols, renewal.new, lot, created)?;
     Ok(())
 }
 
@@ -227,19 +231,19 @@ pub fn add_roots(
     forest: &mut Forest,
     symbols: &mut Symbols,
     renewal: Renewal,
-    came: &mut Vec<Moved>,
+    created: &mut Vec<NodeChange>,
 ) -> Result<(), NoMemory>
     requires symbols { symbols.old ≡ renewal.new.now.grammar }
     requires there { AreThereStill renewal.changed renewal.new.now forest.old }
     ensures gains { OnOk result (Gains renewal.entry.new.now forest.old forest.new) }
     ensures there { OnOk result (AreThere renewal.entry.new.now forest.new (length renewal.entry.new.now.lots)) }
-    ensures came { OnOk result ((W : View) → AreWithin W (node_at forest.old) → ListsMoved (node_at forest.old) W came.old.items → ListsMoved (node_at forest.new) W came.new.items) }
+    ensures created { OnOk result ((W : View) → AreWithin W (node_at forest.old) → ListsOnlyIn (node_at forest.old) W created.old.items → ListsOnlyIn (node_at forest.new) W created.new.items) }
     ensures mode { forest.new.mode ≡ forest.old.mode }
     ensures symbols { symbols.new ≡ symbols.old }
 {
     match renewal.changed {
         ChangedLots::Nothing => Ok(()),
-        ChangedLots::One(_, come) => add_changed(forest, symbols, renewal, come, came),
-        ChangedLots::All => add_all(forest, symbols, renewal, came),
+        ChangedLots::One(_, come) => add_changed(forest, symbols, renewal, come, created),
+        ChangedLots::All => add_all(forest, symbols, renewal, created),
     }
 }

@@ -17,7 +17,7 @@ ghost use Rattle.cga_update.specs.Turned.{HasNobodyLeft, HasPlaced, IsAgain, IsT
 use crate::again::outcome_again;
 use crate::asked::asked;
 use crate::follow::{follow, forget_all, queue_rest};
-use crate::log::{note_came, note_went};
+use crate::log::{note_created, note_removed};
 use crate::work::Work;
 use crate::worked::Worked;
 use cga_agenda::Turned;
@@ -66,9 +66,9 @@ fn place<T: Ledger>(
     let symbols = &mut work.symbols;
     let change = work.forest.replace_children(id, answers, outcome, symbols)?;
     work.forest.laws(); // for the proof
-    note_went(change.went.as_slice(), &mut work.log, &mut work.gone)?;
-    note_came(change.came.as_slice(), &mut work.log, &mut work.come)?;
-    forget_all(&mut work.remembered, change.went.as_slice());
+    note_removed(change.removed.as_slice(), &mut work.log, &mut work.gone)?;
+    note_created(change.created.as_slice(), &mut work.log, &mut work.come)?;
+    forget_all(&mut work.remembered, change.removed.as_slice());
     follow(
         &mut work.agenda,
         &mut work.remembered,

@@ -9,10 +9,10 @@ use Rattle.cga_forest.specs.Tree.{ForestView, IsWhole, depth_at, stay_of, slot_a
 use Rattle.cga_forest.proofs.Marks.{IsWhole-same, IsForest-settled, IsForest-marked, present_settled}
 use Rattle.cga_forest.proofs.Covered.{covered_but, covered_part}
 use Rattle.cga_forest.proofs.Heads.{settled_hulls}
-use Rattle.cga_forest.proofs.Through.{tops_replaced, ReplacedBy-same, Replaces-from, ListsMoved-same}
-use Rattle.cga_forest.specs.declared.moved.Moved.{Moved}
-use Rattle.cga_forest.specs.Moved.{ListsMoved, is_listed}
-use Rattle.cga_forest.proofs.WentCame.{listed_goes, lists_went, lists_came}
+use Rattle.cga_forest.proofs.Through.{tops_replaced, ReplacedBy-same, Replaces-from, ListsOnlyIn-same}
+use Rattle.cga_forest.specs.declared.node_change.NodeChange.{NodeChange}
+use Rattle.cga_forest.specs.NodeChange.{ListsOnlyIn, is_listed}
+use Rattle.cga_forest.proofs.RemovedAndCreated.{listed_goes, lists_removed, lists_created}
 use Rattle.cga_forest.proofs.Tree.{IsTree-same}
 use Rattle.cga_forest.proofs.Tops.{HasRoots-same}
 use Rattle.cga_forest.proofs.Forest.replace_with.Goals as goal
@@ -44,13 +44,13 @@ replace-changed-requires-clause-spares c = let is = c.depth_of-depth.ensures in 
 pub replace-changed-requires-clause-whole : goal.replace-changed-requires-clause-whole
 replace-changed-requires-clause-whole c = IsWhole-same (node_at (record { slots = c.self.inside.store.slots; marking = c.self.inside.marking; roots = c.self.inside.roots.list; marked_roots = c.self.inside.roots.former; mode = c.self.inside.mode })) _ (hulls_at (record { slots = c.self.inside.store.slots; marking = c.self.inside.marking; roots = c.self.inside.roots.list; marked_roots = c.self.inside.roots.former; mode = c.self.inside.mode })) _ (λ k. ap (λ (s : List (Option SlotEntry)). present_of (slot s k)) c.in_ok-reserve.ensures.slots) (λ k e t. ap (λ (s : List (Option SlotEntry)). hulls_of (slot s k)) c.in_ok-reserve.ensures.slots) c.self.invariant.forest.present
 
-pub replace-changed-requires-clause-went : goal.replace-changed-requires-clause-went
-replace-changed-requires-clause-went c k =
+pub replace-changed-requires-clause-removed : goal.replace-changed-requires-clause-removed
+replace-changed-requires-clause-removed c k =
     let there = ap (λ (s : List (Option SlotEntry)). present_of (slot s c.args.id)) c.in_ok-reserve.ensures.slots ∙ (ap (λ (v : ForestView). node_at v c.args.id) c.self.view_is ∙ c.requires.here.1) in
     let whole : IsWhole (λ k. present_of (at c.reserve.new.self k)) (λ k. hulls_of (at c.reserve.new.self k)) = IsWhole-same (node_at (record { slots = c.self.inside.store.slots; marking = c.self.inside.marking; roots = c.self.inside.roots.list; marked_roots = c.self.inside.roots.former; mode = c.self.inside.mode })) _ (hulls_at (record { slots = c.self.inside.store.slots; marking = c.self.inside.marking; roots = c.self.inside.roots.list; marked_roots = c.self.inside.roots.former; mode = c.self.inside.mode })) _ (λ k. ap (λ (s : List (Option SlotEntry)). present_of (slot s k)) c.in_ok-reserve.ensures.slots) (λ k e t. ap (λ (s : List (Option SlotEntry)). hulls_of (slot s k)) c.in_ok-reserve.ensures.slots) c.self.invariant.forest.present in
-    let gathered : c.in_ok-plan.plan.went.items ≡ found (λ k. at c.reserve.new.self k) (going (λ d. kids (at c.reserve.new.self d)) (256 - depth_at (at c.reserve.new.self c.args.id)) (λ k w. stay_of (at c.reserve.new.self k) w) (kids (at c.reserve.new.self c.args.id)) c.args.news.items (length (kids (at c.reserve.new.self c.args.id)))) =
-    rw (← c.as_slice.ensures.value, ← c.depth_of-depth.ensures) c.in_ok-plan.ensures.went in
-    ap (λ (l : List Moved). is_listed l k) gathered
+    let gathered : c.in_ok-plan.plan.removed.items ≡ found (λ k. at c.reserve.new.self k) (going (λ d. kids (at c.reserve.new.self d)) (256 - depth_at (at c.reserve.new.self c.args.id)) (λ k w. stay_of (at c.reserve.new.self k) w) (kids (at c.reserve.new.self c.args.id)) c.args.news.items (length (kids (at c.reserve.new.self c.args.id)))) =
+    rw (← c.as_slice.ensures.value, ← c.depth_of-depth.ensures) c.in_ok-plan.ensures.removed in
+    ap (λ (l : List NodeChange). is_listed l k) gathered
     ∙ listed_goes (λ d. at c.reserve.new.self d) c.args.id (256 - depth_at (at c.reserve.new.self c.args.id)) c.args.news.items c.requires.here.0 whole.tree there k
 
 pub cover_root-requires-clause-tops : goal.cover_root-requires-clause-tops
@@ -94,22 +94,22 @@ returns-clause-replaced c =
     (λ k. ap (λ (v : ForestView). node_at v k) (sym c.self.view_is) ∙ ap (λ (s : List (Option SlotEntry)). present_of (slot s k)) (sym c.in_ok-reserve.ensures.slots))
     now c.replace-changed.ensures.replaced)
 
-pub returns-clause-went : goal.returns-clause-went
-returns-clause-went c =
+pub returns-clause-removed : goal.returns-clause-removed
+returns-clause-removed c =
     let now : (k : ℕ) → node_at c.if-not-self.self k ≡ present_of (at c.replace-changed.new.store k) = elim c.if-not-self.branch [
       | then-not-self w ↦ λ k. rw w.self-is (ap present_of (w.settle.ensures k) ∙ present_settled (at c.replace-changed.new.store k))
       | else-not-self w ↦ λ k. rw w.self-is refl
     ] in
     let old : (k : ℕ) → node_at c.args.self.now k ≡ present_of (at c.reserve.new.self k) = (λ k. ap (λ (v : ForestView). node_at v k) (sym c.self.view_is) ∙ ap (λ (s : List (Option SlotEntry)). present_of (slot s k)) (sym c.in_ok-reserve.ensures.slots)) in
     let whole : IsWhole (λ k. present_of (at c.reserve.new.self k)) (λ k. hulls_of (at c.reserve.new.self k)) = IsWhole-same (node_at (record { slots = c.self.inside.store.slots; marking = c.self.inside.marking; roots = c.self.inside.roots.list; marked_roots = c.self.inside.roots.former; mode = c.self.inside.mode })) _ (hulls_at (record { slots = c.self.inside.store.slots; marking = c.self.inside.marking; roots = c.self.inside.roots.list; marked_roots = c.self.inside.roots.former; mode = c.self.inside.mode })) _ (λ k. ap (λ (s : List (Option SlotEntry)). present_of (slot s k)) c.in_ok-reserve.ensures.slots) (λ k e t. ap (λ (s : List (Option SlotEntry)). hulls_of (slot s k)) c.in_ok-reserve.ensures.slots) c.self.invariant.forest.present in
-    let gathered : c.in_ok-plan.plan.went.items ≡ found (λ k. at c.reserve.new.self k) (going (λ d. kids (at c.reserve.new.self d)) (256 - depth_at (at c.reserve.new.self c.args.id)) (λ k w. stay_of (at c.reserve.new.self k) w) (kids (at c.reserve.new.self c.args.id)) c.args.news.items (length (kids (at c.reserve.new.self c.args.id)))) =
-    rw (← c.as_slice.ensures.value, ← c.depth_of-depth.ensures) c.in_ok-plan.ensures.went in
-    ListsMoved-same (λ k. present_of (at c.reserve.new.self k)) (λ k. present_of (at c.replace-changed.new.store k)) _ _ _ old now
-    (subst (λ (l : List Moved). ListsMoved (λ k. present_of (at c.reserve.new.self k)) (λ k. present_of (at c.replace-changed.new.store k)) l) (sym (c.from_vec.ensures ∙ c.replace-changed.ensures.went ∙ gathered))
-    (lists_went (λ k. at c.reserve.new.self k) (λ k. present_of (at c.replace-changed.new.store k)) c.args.id _ c.args.news.items c.replace-changed.ensures.replaced.0 _ whole.tree c.replace-changed.ensures.replaced.2))
+    let gathered : c.in_ok-plan.plan.removed.items ≡ found (λ k. at c.reserve.new.self k) (going (λ d. kids (at c.reserve.new.self d)) (256 - depth_at (at c.reserve.new.self c.args.id)) (λ k w. stay_of (at c.reserve.new.self k) w) (kids (at c.reserve.new.self c.args.id)) c.args.news.items (length (kids (at c.reserve.new.self c.args.id)))) =
+    rw (← c.as_slice.ensures.value, ← c.depth_of-depth.ensures) c.in_ok-plan.ensures.removed in
+    ListsOnlyIn-same (λ k. present_of (at c.reserve.new.self k)) (λ k. present_of (at c.replace-changed.new.store k)) _ _ _ old now
+    (subst (λ (l : List NodeChange). ListsOnlyIn (λ k. present_of (at c.reserve.new.self k)) (λ k. present_of (at c.replace-changed.new.store k)) l) (sym (c.from_vec.ensures ∙ c.replace-changed.ensures.removed ∙ gathered))
+    (lists_removed (λ k. at c.reserve.new.self k) (λ k. present_of (at c.replace-changed.new.store k)) c.args.id _ c.args.news.items c.replace-changed.ensures.replaced.0 _ whole.tree c.replace-changed.ensures.replaced.2))
 
-pub returns-clause-came : goal.returns-clause-came
-returns-clause-came c =
+pub returns-clause-created : goal.returns-clause-created
+returns-clause-created c =
     let now : (k : ℕ) → node_at c.if-not-self.self k ≡ present_of (at c.replace-changed.new.store k) = elim c.if-not-self.branch [
       | then-not-self w ↦ λ k. rw w.self-is (ap present_of (w.settle.ensures k) ∙ present_settled (at c.replace-changed.new.store k))
       | else-not-self w ↦ λ k. rw w.self-is refl
@@ -117,10 +117,10 @@ returns-clause-came c =
     let old : (k : ℕ) → node_at c.args.self.now k ≡ present_of (at c.reserve.new.self k) = (λ k. ap (λ (v : ForestView). node_at v k) (sym c.self.view_is) ∙ ap (λ (s : List (Option SlotEntry)). present_of (slot s k)) (sym c.in_ok-reserve.ensures.slots)) in
     let whole : IsWhole (λ k. present_of (at c.reserve.new.self k)) (λ k. hulls_of (at c.reserve.new.self k)) = IsWhole-same (node_at (record { slots = c.self.inside.store.slots; marking = c.self.inside.marking; roots = c.self.inside.roots.list; marked_roots = c.self.inside.roots.former; mode = c.self.inside.mode })) _ (hulls_at (record { slots = c.self.inside.store.slots; marking = c.self.inside.marking; roots = c.self.inside.roots.list; marked_roots = c.self.inside.roots.former; mode = c.self.inside.mode })) _ (λ k. ap (λ (s : List (Option SlotEntry)). present_of (slot s k)) c.in_ok-reserve.ensures.slots) (λ k e t. ap (λ (s : List (Option SlotEntry)). hulls_of (slot s k)) c.in_ok-reserve.ensures.slots) c.self.invariant.forest.present in
     let t = λ (k : ℕ). at c.replace-changed.new.store k in
-    let gathered = c.replace-changed.ensures.came ∙ ap (λ (l : List Moved). l ++ found t (coming (kids (at c.reserve.new.self c.args.id)) (kids (t c.args.id)) (length (kids (t c.args.id))))) c.in_ok-plan.ensures.empty in
-    ListsMoved-same (λ k. present_of (at c.replace-changed.new.store k)) (λ k. present_of (at c.reserve.new.self k)) _ _ _ now old
-    (subst (λ (l : List Moved). ListsMoved (λ k. present_of (at c.replace-changed.new.store k)) (λ k. present_of (at c.reserve.new.self k)) l) (sym (c.from_vec-2.ensures ∙ gathered))
-    (lists_came (λ k. at c.reserve.new.self k) (λ k. present_of (at c.replace-changed.new.store k)) c.args.id _ c.args.news.items c.replace-changed.ensures.replaced.0 _ whole.tree c.replace-changed.ensures.replaced.2 (λ k. at c.replace-changed.new.store k) (λ k. refl)))
+    let gathered = c.replace-changed.ensures.created ∙ ap (λ (l : List NodeChange). l ++ found t (coming (kids (at c.reserve.new.self c.args.id)) (kids (t c.args.id)) (length (kids (t c.args.id))))) c.in_ok-plan.ensures.empty in
+    ListsOnlyIn-same (λ k. present_of (at c.replace-changed.new.store k)) (λ k. present_of (at c.reserve.new.self k)) _ _ _ now old
+    (subst (λ (l : List NodeChange). ListsOnlyIn (λ k. present_of (at c.replace-changed.new.store k)) (λ k. present_of (at c.reserve.new.self k)) l) (sym (c.from_vec-2.ensures ∙ gathered))
+    (lists_created (λ k. at c.reserve.new.self k) (λ k. present_of (at c.replace-changed.new.store k)) c.args.id _ c.args.news.items c.replace-changed.ensures.replaced.0 _ whole.tree c.replace-changed.ensures.replaced.2 (λ k. at c.replace-changed.new.store k) (λ k. refl)))
 
 pub returns-clause-unmarked : goal.returns-clause-unmarked
 returns-clause-unmarked c k h t =

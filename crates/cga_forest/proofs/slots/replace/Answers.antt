@@ -1,6 +1,6 @@
 use Rattle.std.proofs.Common.{refl, ◌≡◌, ◌∙◌, ap, ℕ, ◌+◌, ◌-◌, ◌++◌, sym, length, arith}
 use Rattle.cga_forest.specs.Gathered.{coming, found}
-use Rattle.cga_forest.specs.Moved.{is_listed}
+use Rattle.cga_forest.specs.NodeChange.{is_listed}
 use Rattle.cga_forest.specs.View.{at, flag_if, keeps_former, kids, last_from, present_of}
 use Rattle.std.proofs.lemmas.List.{length_push}
 use Rattle.cga_forest.proofs.Present.{depth_present, kids_present, path_present, depth_flag, last_push}
@@ -36,7 +36,7 @@ refresh-requires-clause-tree c =
     c.args.id (depth_at (at c.set_aside_all.new.store c.args.id) + 1) (256 - depth_at (at c.args.store.now c.args.id))
     c.args.marking c.place_children.new.made.items c.args.new.news.items c.args.new.state c.requires.here.0
     c.requires.here.1 c.requires.here.2.low (ap (λ x. x + 1) (f ∙ d)) (ap (λ x. 256 - x) d) c.requires.whole
-    (λ k. c.set_aside_all.ensures.pointwise k ∙ ap (λ b. flag_if b (at c.args.store.now k)) (ap (λ l. is_listed l k) c.as_slice.ensures.value ∙ c.requires.went k))
+    (λ k. c.set_aside_all.ensures.pointwise k ∙ ap (λ b. flag_if b (at c.args.store.now k)) (ap (λ l. is_listed l k) c.as_slice.ensures.value ∙ c.requires.removed k))
     c.place_children.ensures.placed c.place_children.ensures.length c.rewrite.ensures.others c.rewrite.ensures.present
 
 pub refresh-requires-clause-here : goal.refresh-requires-clause-here
@@ -47,7 +47,7 @@ refresh-requires-clause-here c =
     c.args.id (depth_at (at c.set_aside_all.new.store c.args.id) + 1) (256 - depth_at (at c.args.store.now c.args.id))
     c.args.marking c.place_children.new.made.items c.args.new.news.items c.args.new.state c.requires.here.0
     c.requires.here.1 c.requires.here.2.low (ap (λ x. x + 1) (f ∙ d)) (ap (λ x. 256 - x) d) c.requires.whole
-    (λ k. c.set_aside_all.ensures.pointwise k ∙ ap (λ b. flag_if b (at c.args.store.now k)) (ap (λ l. is_listed l k) c.as_slice.ensures.value ∙ c.requires.went k))
+    (λ k. c.set_aside_all.ensures.pointwise k ∙ ap (λ b. flag_if b (at c.args.store.now k)) (ap (λ l. is_listed l k) c.as_slice.ensures.value ∙ c.requires.removed k))
     c.place_children.ensures.placed c.place_children.ensures.length c.rewrite.ensures.others c.rewrite.ensures.present
 
 pub refresh-requires-clause-right : goal.refresh-requires-clause-right
@@ -58,7 +58,7 @@ refresh-requires-clause-right c =
     c.args.id (depth_at (at c.set_aside_all.new.store c.args.id) + 1) (256 - depth_at (at c.args.store.now c.args.id))
     c.args.marking c.place_children.new.made.items c.args.new.news.items c.args.new.state c.requires.here.0
     c.requires.here.1 c.requires.here.2.low (ap (λ x. x + 1) (f ∙ d)) (ap (λ x. 256 - x) d) c.requires.whole
-    (λ k. c.set_aside_all.ensures.pointwise k ∙ ap (λ b. flag_if b (at c.args.store.now k)) (ap (λ l. is_listed l k) c.as_slice.ensures.value ∙ c.requires.went k))
+    (λ k. c.set_aside_all.ensures.pointwise k ∙ ap (λ b. flag_if b (at c.args.store.now k)) (ap (λ l. is_listed l k) c.as_slice.ensures.value ∙ c.requires.removed k))
     c.place_children.ensures.placed c.place_children.ensures.length c.rewrite.ensures.others c.rewrite.ensures.present c.rewrite.ensures.hulls
 
 pub refresh-requires-clause-spares : goal.refresh-requires-clause-spares
@@ -69,7 +69,7 @@ refresh-requires-clause-spares c =
     c.args.id (depth_at (at c.set_aside_all.new.store c.args.id) + 1) (256 - depth_at (at c.args.store.now c.args.id))
     c.args.marking c.place_children.new.made.items c.args.new.news.items c.args.new.state c.requires.here.0
     c.requires.here.1 c.requires.here.2.low (ap (λ x. x + 1) (f ∙ d)) (ap (λ x. 256 - x) d) c.requires.whole
-    (λ k. c.set_aside_all.ensures.pointwise k ∙ ap (λ b. flag_if b (at c.args.store.now k)) (ap (λ l. is_listed l k) c.as_slice.ensures.value ∙ c.requires.went k))
+    (λ k. c.set_aside_all.ensures.pointwise k ∙ ap (λ b. flag_if b (at c.args.store.now k)) (ap (λ l. is_listed l k) c.as_slice.ensures.value ∙ c.requires.removed k))
     c.place_children.ensures.placed c.place_children.ensures.length c.rewrite.ensures.others c.rewrite.ensures.present) c.requires.spares
 
 pub returns-clause-whole : goal.returns-clause-whole
@@ -80,19 +80,19 @@ returns-clause-whole c =
     c.args.id (depth_at (at c.set_aside_all.new.store c.args.id) + 1) (256 - depth_at (at c.args.store.now c.args.id))
     c.args.marking c.place_children.new.made.items c.args.new.news.items c.args.new.state c.requires.here.0
     c.requires.here.1 c.requires.here.2.low (ap (λ x. x + 1) (f ∙ d)) (ap (λ x. 256 - x) d) c.requires.whole
-    (λ k. c.set_aside_all.ensures.pointwise k ∙ ap (λ b. flag_if b (at c.args.store.now k)) (ap (λ l. is_listed l k) c.as_slice.ensures.value ∙ c.requires.went k))
+    (λ k. c.set_aside_all.ensures.pointwise k ∙ ap (λ b. flag_if b (at c.args.store.now k)) (ap (λ l. is_listed l k) c.as_slice.ensures.value ∙ c.requires.removed k))
     c.place_children.ensures.placed c.place_children.ensures.length c.rewrite.ensures.others
     c.rewrite.ensures.present c.requires.here.2) (tree_after (λ k. at c.args.store.now k) (λ k. at c.set_aside_all.new.store k) (λ k. at c.place_children.new.store k) (λ k. at c.rewrite.new.store k)
     c.args.id (depth_at (at c.set_aside_all.new.store c.args.id) + 1) (256 - depth_at (at c.args.store.now c.args.id))
     c.args.marking c.place_children.new.made.items c.args.new.news.items c.args.new.state c.requires.here.0
     c.requires.here.1 c.requires.here.2.low (ap (λ x. x + 1) (f ∙ d)) (ap (λ x. 256 - x) d) c.requires.whole
-    (λ k. c.set_aside_all.ensures.pointwise k ∙ ap (λ b. flag_if b (at c.args.store.now k)) (ap (λ l. is_listed l k) c.as_slice.ensures.value ∙ c.requires.went k))
+    (λ k. c.set_aside_all.ensures.pointwise k ∙ ap (λ b. flag_if b (at c.args.store.now k)) (ap (λ l. is_listed l k) c.as_slice.ensures.value ∙ c.requires.removed k))
     c.place_children.ensures.placed c.place_children.ensures.length c.rewrite.ensures.others
     c.rewrite.ensures.present) (few_after (λ k. at c.args.store.now k) (λ k. at c.set_aside_all.new.store k) (λ k. at c.place_children.new.store k) (λ k. at c.rewrite.new.store k)
     c.args.id (depth_at (at c.set_aside_all.new.store c.args.id) + 1) (256 - depth_at (at c.args.store.now c.args.id))
     c.args.marking c.place_children.new.made.items c.args.new.news.items c.args.new.state c.requires.here.0
     c.requires.here.1 c.requires.here.2.low (ap (λ x. x + 1) (f ∙ d)) (ap (λ x. 256 - x) d) c.requires.whole
-    (λ k. c.set_aside_all.ensures.pointwise k ∙ ap (λ b. flag_if b (at c.args.store.now k)) (ap (λ l. is_listed l k) c.as_slice.ensures.value ∙ c.requires.went k))
+    (λ k. c.set_aside_all.ensures.pointwise k ∙ ap (λ b. flag_if b (at c.args.store.now k)) (ap (λ l. is_listed l k) c.as_slice.ensures.value ∙ c.requires.removed k))
     c.place_children.ensures.placed c.place_children.ensures.length c.rewrite.ensures.others
     c.rewrite.ensures.present c.requires.here.2.few)
 
@@ -107,7 +107,7 @@ returns-clause-replaced c =
           c.args.id (depth_at (at c.set_aside_all.new.store c.args.id) + 1) (256 - depth_at (at c.args.store.now c.args.id))
           c.args.marking c.place_children.new.made.items c.args.new.news.items c.args.new.state c.requires.here.0
           c.requires.here.1 c.requires.here.2.low (ap (λ x. x + 1) (f ∙ d)) (ap (λ x. 256 - x) d) c.requires.whole
-          (λ k. c.set_aside_all.ensures.pointwise k ∙ ap (λ b. flag_if b (at c.args.store.now k)) (ap (λ l. is_listed l k) c.as_slice.ensures.value ∙ c.requires.went k))
+          (λ k. c.set_aside_all.ensures.pointwise k ∙ ap (λ b. flag_if b (at c.args.store.now k)) (ap (λ l. is_listed l k) c.as_slice.ensures.value ∙ c.requires.removed k))
           c.place_children.ensures.placed c.place_children.ensures.length c.rewrite.ensures.others c.rewrite.ensures.present),
     )
 
@@ -119,7 +119,7 @@ returns-clause-vacant c k x h t =
     c.args.id (depth_at (at c.set_aside_all.new.store c.args.id) + 1) (256 - depth_at (at c.args.store.now c.args.id))
     c.args.marking c.place_children.new.made.items c.args.new.news.items c.args.new.state c.requires.here.0
     c.requires.here.1 c.requires.here.2.low (ap (λ x. x + 1) (f ∙ d)) (ap (λ x. 256 - x) d) c.requires.whole
-    (λ k. c.set_aside_all.ensures.pointwise k ∙ ap (λ b. flag_if b (at c.args.store.now k)) (ap (λ l. is_listed l k) c.as_slice.ensures.value ∙ c.requires.went k))
+    (λ k. c.set_aside_all.ensures.pointwise k ∙ ap (λ b. flag_if b (at c.args.store.now k)) (ap (λ l. is_listed l k) c.as_slice.ensures.value ∙ c.requires.removed k))
     c.place_children.ensures.placed c.place_children.ensures.length c.rewrite.ensures.others c.rewrite.ensures.present k x h (sym (c.refresh.ensures.present k) ∙ t)
 
 pub returns-clause-marked : goal.returns-clause-marked
@@ -130,13 +130,13 @@ returns-clause-marked c on k =
     c.args.id (depth_at (at c.set_aside_all.new.store c.args.id) + 1) (256 - depth_at (at c.args.store.now c.args.id))
     c.args.marking c.place_children.new.made.items c.args.new.news.items c.args.new.state c.requires.here.0
     c.requires.here.1 c.requires.here.2.low (ap (λ x. x + 1) (f ∙ d)) (ap (λ x. 256 - x) d) c.requires.whole
-    (λ k. c.set_aside_all.ensures.pointwise k ∙ ap (λ b. flag_if b (at c.args.store.now k)) (ap (λ l. is_listed l k) c.as_slice.ensures.value ∙ c.requires.went k))
+    (λ k. c.set_aside_all.ensures.pointwise k ∙ ap (λ b. flag_if b (at c.args.store.now k)) (ap (λ l. is_listed l k) c.as_slice.ensures.value ∙ c.requires.removed k))
     c.place_children.ensures.placed c.place_children.ensures.length c.rewrite.ensures.others c.rewrite.ensures.present in
     c.refresh.ensures.marked k ∙ mark_after (λ k. at c.args.store.now k) (λ k. at c.set_aside_all.new.store k) (λ k. at c.place_children.new.store k) (λ k. at c.rewrite.new.store k)
     c.args.id (depth_at (at c.set_aside_all.new.store c.args.id) + 1) (256 - depth_at (at c.args.store.now c.args.id))
     c.args.marking c.place_children.new.made.items c.args.new.news.items c.args.new.state c.requires.here.0
     c.requires.here.1 c.requires.here.2.low (ap (λ x. x + 1) (f ∙ d)) (ap (λ x. 256 - x) d) c.requires.whole
-    (λ k. c.set_aside_all.ensures.pointwise k ∙ ap (λ b. flag_if b (at c.args.store.now k)) (ap (λ l. is_listed l k) c.as_slice.ensures.value ∙ c.requires.went k))
+    (λ k. c.set_aside_all.ensures.pointwise k ∙ ap (λ b. flag_if b (at c.args.store.now k)) (ap (λ l. is_listed l k) c.as_slice.ensures.value ∙ c.requires.removed k))
     c.place_children.ensures.placed c.place_children.ensures.length c.rewrite.ensures.others c.rewrite.ensures.present on (c.rewrite.ensures.marked on (λ h. c.requires.spare (ap (keeps_former c.args.marking) (sym still) ∙ h))) c.rewrite.ensures.marked_hulls k
 
 pub returns-clause-marked_hulls : goal.returns-clause-marked_hulls
@@ -147,13 +147,13 @@ returns-clause-marked_hulls c on k =
     c.args.id (depth_at (at c.set_aside_all.new.store c.args.id) + 1) (256 - depth_at (at c.args.store.now c.args.id))
     c.args.marking c.place_children.new.made.items c.args.new.news.items c.args.new.state c.requires.here.0
     c.requires.here.1 c.requires.here.2.low (ap (λ x. x + 1) (f ∙ d)) (ap (λ x. 256 - x) d) c.requires.whole
-    (λ k. c.set_aside_all.ensures.pointwise k ∙ ap (λ b. flag_if b (at c.args.store.now k)) (ap (λ l. is_listed l k) c.as_slice.ensures.value ∙ c.requires.went k))
+    (λ k. c.set_aside_all.ensures.pointwise k ∙ ap (λ b. flag_if b (at c.args.store.now k)) (ap (λ l. is_listed l k) c.as_slice.ensures.value ∙ c.requires.removed k))
     c.place_children.ensures.placed c.place_children.ensures.length c.rewrite.ensures.others c.rewrite.ensures.present in
     c.refresh.ensures.marked_hulls on k ∙ mark_hulls_after (λ k. at c.args.store.now k) (λ k. at c.set_aside_all.new.store k) (λ k. at c.place_children.new.store k) (λ k. at c.rewrite.new.store k)
     c.args.id (depth_at (at c.set_aside_all.new.store c.args.id) + 1) (256 - depth_at (at c.args.store.now c.args.id))
     c.args.marking c.place_children.new.made.items c.args.new.news.items c.args.new.state c.requires.here.0
     c.requires.here.1 c.requires.here.2.low (ap (λ x. x + 1) (f ∙ d)) (ap (λ x. 256 - x) d) c.requires.whole
-    (λ k. c.set_aside_all.ensures.pointwise k ∙ ap (λ b. flag_if b (at c.args.store.now k)) (ap (λ l. is_listed l k) c.as_slice.ensures.value ∙ c.requires.went k))
+    (λ k. c.set_aside_all.ensures.pointwise k ∙ ap (λ b. flag_if b (at c.args.store.now k)) (ap (λ l. is_listed l k) c.as_slice.ensures.value ∙ c.requires.removed k))
     c.place_children.ensures.placed c.place_children.ensures.length c.rewrite.ensures.others c.rewrite.ensures.present on (c.rewrite.ensures.marked on (λ h. c.requires.spare (ap (keeps_former c.args.marking) (sym still) ∙ h))) c.rewrite.ensures.marked_hulls k
 
 pub returns-clause-taken : goal.returns-clause-taken
@@ -182,8 +182,8 @@ returns-clause-others c k d t top n =
 pub list_coming-requires : goal.list_coming-requires
 list_coming-requires c = record { room = (let l = c.place_children.ensures.length in let r = c.requires.listed in omega arith) }
 
-pub returns-clause-came : goal.returns-clause-came
-returns-clause-came c =
+pub returns-clause-created : goal.returns-clause-created
+returns-clause-created c =
     let old = λ (k : ℕ). at c.args.store.now k in
     let cut = λ (k : ℕ). at c.set_aside_all.new.store k in
     let placed = λ (k : ℕ). at c.place_children.new.store k in
@@ -200,10 +200,10 @@ returns-clause-came c =
     c.args.id (depth_at (at c.set_aside_all.new.store c.args.id) + 1) (256 - depth_at (at c.args.store.now c.args.id))
     c.args.marking c.place_children.new.made.items c.args.new.news.items c.args.new.state c.requires.here.0
     c.requires.here.1 c.requires.here.2.low (ap (λ x. x + 1) (f ∙ d)) (ap (λ x. 256 - x) d) c.requires.whole
-    (λ k. c.set_aside_all.ensures.pointwise k ∙ ap (λ b. flag_if b (at c.args.store.now k)) (ap (λ l. is_listed l k) c.as_slice.ensures.value ∙ c.requires.went k))
+    (λ k. c.set_aside_all.ensures.pointwise k ∙ ap (λ b. flag_if b (at c.args.store.now k)) (ap (λ l. is_listed l k) c.as_slice.ensures.value ∙ c.requires.removed k))
     c.place_children.ensures.placed c.place_children.ensures.length c.rewrite.ensures.others c.rewrite.ensures.present in
     let children : made ≡ kids (now id) = sym (kids_present (now id) _ (c.refresh.ensures.present id ∙ replaced.is)) in
     let still = found_after cut placed id depth c.args.marking news made c.place_children.ensures.placed here now (λ k n. c.refresh.ensures.present k ∙ ap present_of (c.rewrite.ensures.others k n)) in
     c.list_coming.ensures
-    ∙ ap (λ l. c.args.plan.now.came.items ++ found placed (coming (kids (placed id)) l (length l))) c.as_slice-2.ensures.value
-    ∙ ap (λ l. c.args.plan.now.came.items ++ l) (still ∙ ap (found now) (λ i. coming (olds i) (children i) (length (children i))))
+    ∙ ap (λ l. c.args.plan.now.created.items ++ found placed (coming (kids (placed id)) l (length l))) c.as_slice-2.ensures.value
+    ∙ ap (λ l. c.args.plan.now.created.items ++ l) (still ∙ ap (found now) (λ i. coming (olds i) (children i) (length (children i))))

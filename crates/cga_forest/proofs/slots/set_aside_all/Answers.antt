@@ -1,7 +1,7 @@
 use Rattle.std.proofs.Common.{◌≤◌, ℕ, length, arith, ap, ◌∙◌, refl, ◌||◌, nat_eq, take}
-use Rattle.cga_forest.specs.declared.moved.Moved.{Moved}
+use Rattle.cga_forest.specs.declared.node_change.NodeChange.{NodeChange}
 use Rattle.cga_forest.specs.View.{at, flag_if}
-use Rattle.cga_forest.specs.Moved.{is_listed}
+use Rattle.cga_forest.specs.NodeChange.{is_listed}
 use Rattle.cga_forest.proofs.Under.{any_take_all, flag_one, listed_more}
 use Rattle.cga_forest.proofs.slots.set_aside_all.Goals as goal
 
@@ -25,7 +25,7 @@ loop-moved-preserved c =
 pub returns-clause-pointwise : goal.returns-clause-pointwise
 returns-clause-pointwise c d =
     let done : length c.args.list.now ≤ c.loop-moved.moved-index = (let t = c.loop-moved-test.false in omega arith) in
-    c.loop-moved.invariant.so_far d ∙ ap (λ b. flag_if b (at c.args.store.now d)) (any_take_all (λ (m : Moved). nat_eq m.id d) c.args.list.now c.loop-moved.moved-index done)
+    c.loop-moved.invariant.so_far d ∙ ap (λ b. flag_if b (at c.args.store.now d)) (any_take_all (λ (m : NodeChange). nat_eq m.id d) c.args.list.now c.loop-moved.moved-index done)
 
 pub returns-clause-room : goal.returns-clause-room
 returns-clause-room c = c.loop-moved.invariant.room

@@ -1,6 +1,6 @@
 use Rattle.std.proofs.Common.{◌≡◌, ℕ, take}
 use Rattle.cga_forest.specs.View.{at, flag_if, KeepsRoom}
-use Rattle.cga_forest.specs.Moved.{is_listed}
+use Rattle.cga_forest.specs.NodeChange.{is_listed}
 use Rattle.cga_forest.proofs.slots.set_aside_all.Given as goal
 
 abbrev pub invariant-loop-moved : goal.invariant-loop-moved

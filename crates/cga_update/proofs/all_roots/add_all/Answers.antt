@@ -10,7 +10,7 @@ pub loop-run-init : goal.loop-run-init
 loop-run-init c = record {
   gains = nothing_gained c.args.renewal.new.now c.args.forest.now;
   there = λ i lot le. absurd (omega (arith, le));
-  came = λ W within lists. lists;
+  created = λ W within lists. lists;
   mode = refl;
   symbols = refl;
 }
@@ -38,7 +38,7 @@ loop-run-preserved c =
       there =
           subst (λ (n : ℕ). AreThere new after n) (run_next new.lots runs c.runs-run-items.ensures k run c.loop-run-test.true is)
           (one.there (length (joined (take k runs))) (run_at new.lots runs c.runs-run-items.ensures k run c.loop-run-test.true is) c.loop-run.invariant.there);
-      came = λ W within lists. one.came W (λ k d w. c.loop-run.invariant.gains.more k d (within k d w)) (c.loop-run.invariant.came W within lists);
+      created = λ W within lists. one.created W (λ k d w. c.loop-run.invariant.gains.more k d (within k d w)) (c.loop-run.invariant.created W within lists);
       mode = one.mode ∙ c.loop-run.invariant.mode;
       symbols = c.add_run.ensures.symbols ∙ c.loop-run.invariant.symbols;
     }

@@ -8,7 +8,7 @@ pub loop-lot-init : goal.loop-lot-init
 loop-lot-init c = record {
   gains = nothing_gained c.args.renewal.new.now c.args.forest.now;
   there = λ n at there. there_fewer c.args.renewal.new.now c.args.forest.now n (n + 0) (omega arith) there;
-  came = λ W within lists. lists;
+  created = λ W within lists. lists;
   mode = refl;
   symbols = refl;
 }
@@ -35,7 +35,7 @@ loop-lot-preserved c =
       there = λ n at there.
           there_fewer new after (n + i + 1) (n + (i + 1)) (omega arith)
           (there_more new before after (n + i) c.lot-item.result (at i c.lot-item.result item) one.gains one.there (c.loop-lot.invariant.there n at there));
-      came = λ W within lists. one.came W (λ k d w. c.loop-lot.invariant.gains.more k d (within k d w)) (c.loop-lot.invariant.came W within lists);
+      created = λ W within lists. one.created W (λ k d w. c.loop-lot.invariant.gains.more k d (within k d w)) (c.loop-lot.invariant.created W within lists);
       mode = one.mode ∙ c.loop-lot.invariant.mode;
       symbols = c.add_root.ensures.symbols ∙ c.loop-lot.invariant.symbols;
     }

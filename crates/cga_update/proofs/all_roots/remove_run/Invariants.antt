@@ -6,7 +6,7 @@ use Rattle.cga_update.proofs.all_roots.remove_run.Given as goal
 abbrev pub invariant-loop-lot : goal.invariant-loop-lot
 invariant-loop-lot l = record {
   symbols : l.symbols ≡ l.fn.symbols;
-  lost : (V : View) → HasLost V l.fn.forest l.fn.went.items → HasLost V l.forest l.went.items;
+  lost : (V : View) → HasLost V l.fn.forest l.fn.removed.items → HasLost V l.forest l.removed.items;
   wanted : (n : ℕ) → IsRunAt l.renewal.old.now.lots n l.run → AreWanted l.renewal.new.now l.renewal.old.now.lots l.fn.forest n
       → AreWanted l.renewal.new.now l.renewal.old.now.lots l.forest (n + l.lot-index);
   loses : Loses l.renewal.new.now l.fn.forest l.forest;

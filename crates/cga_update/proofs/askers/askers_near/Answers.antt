@@ -13,11 +13,11 @@ queriers_near-requires g c = record { laws = lasting_laws c.args.forest.now c.la
 pub returns : goal.returns
 returns g c =
     let v = c.args.forest.now in
-    let went = c.args.went.now in
-    let came = c.args.came.now in
-    let none = ap (λ l. l ++ boxes_of went) c.in_ok-areas.ensures.items in
-    let first = ap (λ l. l ++ boxes_of came) (c.in_ok-add_boxes.ensures ∙ none) in
-    let all = c.as_slice.ensures.value ∙ c.in_ok-add_boxes-2.ensures ∙ first ∙ sym (boxes_join went came) in
+    let removed = c.args.removed.now in
+    let created = c.args.created.now in
+    let none = ap (λ l. l ++ boxes_of removed) c.in_ok-areas.ensures.items in
+    let first = ap (λ l. l ++ boxes_of created) (c.in_ok-add_boxes.ensures ∙ none) in
+    let all = c.as_slice.ensures.value ∙ c.in_ok-add_boxes-2.ensures ∙ first ∙ sym (boxes_join removed created) in
     IfOk-map c.queriers_near.result
-    (λ list lists. lists_askers v c.laws.ensures (went ++ came) list (subst (λ boxes. ListsNear (lasting_tree v) boxes list) all lists))
+    (λ list lists. lists_askers v c.laws.ensures (removed ++ created) list (subst (λ boxes. ListsNear (lasting_tree v) boxes list) all lists))
     c.queriers_near.ensures

@@ -1,8 +1,8 @@
 use Rattle.std.proofs.Common.{◌∙◌, refl, sym, subst, List, ℕ, Some}
 use Rattle.cga_fraction.proofs.Door.{None-not-Some}
 use Rattle.cga_rule.specs.declared.grammar.Grammar.{Grammar}
-use Rattle.cga_forest.specs.declared.moved.Moved.{Moved}
-use Rattle.cga_forest.specs.Moved.{ListsMoved}
+use Rattle.cga_forest.specs.declared.node_change.NodeChange.{NodeChange}
+use Rattle.cga_forest.specs.NodeChange.{ListsOnlyIn}
 use Rattle.cga_forest.specs.Tree.{marked_at, node_at}
 use Rattle.cga_depend.specs.declared.log.Pairing.{Pairing}
 use Rattle.cga_depend.specs.Pairs.{nodes_in}
@@ -13,7 +13,7 @@ use Rattle.cga_update.specs.Last.{AskersAreUpTo, IsTold}
 use Rattle.cga_update.specs.Log.{IsLogged}
 use Rattle.cga_update.specs.Near.{IsAny, IsChangedFor, IsPricedFor, KeepsPriorities}
 use Rattle.cga_update.specs.Roots.{HasLost}
-use Rattle.cga_update.proofs.Adding.{none_came}
+use Rattle.cga_update.proofs.Adding.{none_created}
 use Rattle.cga_update.proofs.Beginning as proof
 use Rattle.cga_update.proofs.RootsGo as roots_go
 use Rattle.cga_update.proofs.DueNodes.{one_each}
@@ -21,7 +21,7 @@ use Rattle.cga_update.proofs.Lasting.{first_up_to}
 use Rattle.cga_update.proofs.Logged.{drawn_from, log_from}
 use Rattle.cga_update.proofs.Nearby.{moved_kept}
 use Rattle.cga_update.proofs.Rooting.{IsRooted, still, wanted_after}
-use Rattle.cga_update.proofs.Unkept.{all_came, first_due, is_zero, none_asks}
+use Rattle.cga_update.proofs.Unkept.{all_created, first_due, is_zero, none_asks}
 use Rattle.cga_update.proofs.begin.begin.Goals as goal
 
 pub remove_roots-requires : goal.remove_roots-requires
@@ -53,31 +53,31 @@ returns-clause-begun g c =
     let before = c.remove_roots.new.forest in
     let v = c.add_roots.new.forest in
     let a = c.queue_changed.new.agenda in
-    let went = c.remove_roots.new.went.items in
-    let came = c.add_roots.new.came.items in
+    let removed = c.remove_roots.new.removed.items in
+    let created = c.add_roots.new.created.items in
     let first_laws = c.laws.ensures in
     let laws = c.laws-2.ensures in
-    let lost : HasLost (node_at first) before went = c.in_ok-remove_roots.ensures.lost (node_at first) (roots_go.nothing_lost old new first d c.new-went.result.items c.new-went.ensures.items stands first_laws) in
+    let lost : HasLost (node_at first) before removed = c.in_ok-remove_roots.ensures.lost (node_at first) (roots_go.nothing_lost old new first d c.new-removed.result.items c.new-removed.ensures.items stands first_laws) in
     let gains = c.in_ok-add_roots.ensures.gains in
     let loses = c.in_ok-remove_roots.ensures.loses in
-    let r = roots_go.now_rerooted old new first before v d went stands first_laws lost loses gains in
-    let keeps = still new (node_at first) first before v went (λ k. refl) (roots_go.parent_there first first_laws) lost loses gains in
-    let listed = roots_go.came_since (node_at first) before v went came lost keeps (c.in_ok-add_roots.ensures.came (node_at before) (λ k x at. at)
-    (subst (λ (list : List Moved). ListsMoved (node_at before) (node_at before) list) (sym c.new-came.ensures.items) (none_came (node_at before)))) in
+    let r = roots_go.now_rerooted old new first before v d removed stands first_laws lost loses gains in
+    let keeps = still new (node_at first) first before v removed (λ k. refl) (roots_go.parent_there first first_laws) lost loses gains in
+    let listed = roots_go.created_since (node_at first) before v removed created lost keeps (c.in_ok-add_roots.ensures.created (node_at before) (λ k x at. at)
+    (subst (λ (list : List NodeChange). ListsOnlyIn (node_at before) (node_at before) list) (sym c.new-created.ensures.items) (none_created (node_at before)))) in
     let wanted = wanted_after new before v c.in_ok-remove_roots.ensures.wanted gains in
     let there = c.in_ok-add_roots.ensures.there in
-    let moved : HasMoved v went came a =
-    moved_kept v IsAny c.queue_rooted.new.agenda a c.in_ok-priced.ensures.grows went came
-    (subst (λ (list : List Moved). HasMoved v list came c.queue_rooted.new.agenda) c.as_slice-went_nodes.ensures.value
-    (subst (λ (list : List Moved). HasMoved v c.as_slice-went_nodes.result.now list c.queue_rooted.new.agenda) c.as_slice-came_nodes.ensures.value c.in_ok-queue_rooted.ensures.moved)) in
+    let moved : HasMoved v removed created a =
+    moved_kept v IsAny c.queue_rooted.new.agenda a c.in_ok-priced.ensures.grows removed created
+    (subst (λ (list : List NodeChange). HasMoved v list created c.queue_rooted.new.agenda) c.as_slice-removed_nodes.ensures.value
+    (subst (λ (list : List NodeChange). HasMoved v c.as_slice-removed_nodes.result.now list c.queue_rooted.new.agenda) c.as_slice-created_nodes.ensures.value c.in_ok-queue_rooted.ensures.moved)) in
     let grammars = c.requires.fresh.grammars in
     let known = c.add_roots.ensures.symbols ∙ (c.remove_roots.ensures.symbols ∙ c.requires.fresh.symbols) in
-    let agenda : IsFirst old new v d went came a = record {
+    let agenda : IsFirst old new v d removed created a = record {
       moved = moved;
       changed = subst (λ (g : BothGrammars). (symbol : List ℕ) → IsChangedFor v g.before g.after (nodes_in d symbol) symbol a) grammars c.in_ok-priced.ensures.there;
       priced = subst (λ (g : BothGrammars). (symbol : List ℕ) → IsPricedFor v g.before g.after (nodes_in d symbol) symbol a) grammars c.in_ok-priced.ensures.parents;
     } in
-    let start : IsRooted old new first v d went came a = record {
+    let start : IsRooted old new first v d removed created a = record {
       old_names = c.args.work.now.renewal.old_names;
       names = c.args.work.now.renewal.names;
       stands = stands;
@@ -101,22 +101,22 @@ returns-clause-begun g c =
         queued = begins.1.1;
         due = first_due start new.mode;
         remembered = λ k is. None-not-Some (Some k) (subst (λ (ns : RememberedView). IsRemembered ns k) c.requires.fresh.remembered is);
-        all_queued = λ is. none_asks v new.mode _ (λ k x there. r.marked k ∙ all_came (node_at first) before v keeps (is_zero c.count.result _ c.count.ensures is) k x there);
+        all_queued = λ is. none_asks v new.mode _ (λ k x there. r.marked k ∙ all_created (node_at first) before v keeps (is_zero c.count.result _ c.count.ensures is) k x there);
         priced = λ is. proof.priced_now start (subst (λ (g : BothGrammars). KeepsPriorities g.before g.after d) grammars (c.in_ok-priced.ensures.priced is));
         last = subst (λ mode. AskersAreUpTo mode c.in_ok-last.last new.grammar v) (c.in_ok-priced.ensures.grows.mode ∙ c.in_ok-queue_rooted.ensures.mode ∙ c.requires.fresh.mode)
             (first_up_to start a.mode c.in_ok-last.last (subst (λ (g : Grammar). IsTold a.mode v d old.grammar g c.in_ok-last.last) known c.in_ok-last.ensures.told));
         silent = proof.silent_now start;
         plain = proof.plain_now start;
-        gone = drawn_from c.note_went.new.gone.items c.args.work.now.gone.items c.as_slice-went_nodes.result.now went c.in_ok-note_went.ensures.gone c.requires.fresh.gone c.as_slice-went_nodes.ensures.value ∙ sym lost_list.2;
-        come = drawn_from c.note_came.new.come.items c.args.work.now.come.items c.as_slice-came_nodes.result.now came c.in_ok-note_came.ensures.come c.requires.fresh.come c.as_slice-came_nodes.ensures.value
-            ∙ proof.came_drawn start;
+        gone = drawn_from c.note_removed.new.gone.items c.args.work.now.gone.items c.as_slice-removed_nodes.result.now removed c.in_ok-note_removed.ensures.gone c.requires.fresh.gone c.as_slice-removed_nodes.ensures.value ∙ sym lost_list.2;
+        come = drawn_from c.note_created.new.come.items c.args.work.now.come.items c.as_slice-created_nodes.result.now created c.in_ok-note_created.ensures.come c.requires.fresh.come c.as_slice-created_nodes.ensures.value
+            ∙ proof.created_drawn start;
         symbols = c.last_asker.ensures.symbols ∙ known;
         rules = c.requires.fresh.rules;
         grammars = c.queue_changed.ensures.grammars ∙ grammars;
         marked = r.marking;
         logged = subst (λ (log : List Pairing). IsLogged (marked_at v) (node_at v) log)
-            (sym (log_from c.note_came.new.log.items c.note_went.new.log.items c.args.work.now.log.items c.as_slice-went_nodes.result.now c.as_slice-came_nodes.result.now went came
-            c.in_ok-note_came.ensures.log c.in_ok-note_went.ensures.log c.requires.fresh.log c.as_slice-went_nodes.ensures.value c.as_slice-came_nodes.ensures.value))
+            (sym (log_from c.note_created.new.log.items c.note_removed.new.log.items c.args.work.now.log.items c.as_slice-removed_nodes.result.now c.as_slice-created_nodes.result.now removed created
+            c.in_ok-note_created.ensures.log c.in_ok-note_removed.ensures.log c.requires.fresh.log c.as_slice-removed_nodes.ensures.value c.as_slice-created_nodes.ensures.value))
             (proof.logged start);
       },
       proof.is_ready start,
@@ -125,6 +125,6 @@ returns-clause-begun g c =
 pub returns-clause-mark : goal.returns-clause-mark
 returns-clause-mark g c =
     let first = c.args.work.now.forest in
-    let lost : HasLost (node_at first) c.remove_roots.new.forest c.remove_roots.new.went.items =
-    c.in_ok-remove_roots.ensures.lost (node_at first) (roots_go.nothing_lost c.args.work.now.renewal.old.now c.args.work.now.renewal.new.now first c.args.dependents.now c.new-went.result.items c.new-went.ensures.items c.requires.stands c.laws.ensures) in
+    let lost : HasLost (node_at first) c.remove_roots.new.forest c.remove_roots.new.removed.items =
+    c.in_ok-remove_roots.ensures.lost (node_at first) (roots_go.nothing_lost c.args.work.now.renewal.old.now c.args.work.now.renewal.new.now first c.args.dependents.now c.new-removed.result.items c.new-removed.ensures.items c.requires.stands c.laws.ensures) in
     λ k. c.in_ok-add_roots.ensures.gains.marked lost.marking k ∙ lost.marked k

@@ -10,7 +10,7 @@ use Rattle.cga_update.proofs.follow.add_met.Goals as goal
 pub returns-clause-grows : goal.returns-clause-grows
 returns-clause-grows g c =
     let v = c.args.forest.now in
-    let moved = c.args.went.now ++ c.args.came.now in
+    let moved = c.args.removed.now ++ c.args.created.now in
     let lent = c.as_slice.result.now in
     let late = ComesAfter (chains_of v) c.args.agenda.now.mode c.args.of in
     on_ok c.add_later.result
@@ -21,5 +21,5 @@ returns-clause-grows g c =
 pub returns-clause-there : goal.returns-clause-there
 returns-clause-there g c =
     on_ok c.add_later.result
-    (λ has are k p here. has are k (asker_in c.args.forest.now (c.args.went.now ++ c.args.came.now) c.in_ok-askers.askers c.as_slice.result.now c.as_slice.ensures c.in_ok-askers.ensures k p.0, p.1) here)
+    (λ has are k p here. has are k (asker_in c.args.forest.now (c.args.removed.now ++ c.args.created.now) c.in_ok-askers.askers c.as_slice.result.now c.as_slice.ensures c.in_ok-askers.ensures k p.0, p.1) here)
     c.add_later.ensures.there

@@ -6,9 +6,9 @@ pub returns-clause-followed : goal.returns-clause-followed
 returns-clause-followed g c =
     let moved = c.in_ok-add_moved.ensures in
     on_ok_both c.add_met.result
-    (λ grows there are. followed_by c.args.forest.now c.args.of c.args.change.now c.args.nobody c.as_slice-came.result.now c.as_slice-went.result.now
+    (λ grows there are. followed_by c.args.forest.now c.args.of c.args.change.now c.args.nobody c.as_slice-created.result.now c.as_slice-removed.result.now
     c.args.agenda.now c.add_moved.new.agenda c.add_met.new.agenda
-    c.as_slice-came.ensures c.as_slice-went.ensures moved.grows moved.there grows (there (λ k is. moved.grows.kept k (are k is))))
+    c.as_slice-created.ensures c.as_slice-removed.ensures moved.grows moved.there grows (there (λ k is. moved.grows.kept k (are k is))))
     c.add_met.ensures.grows c.add_met.ensures.there
 
 pub returns-clause-remembered : goal.returns-clause-remembered
@@ -17,8 +17,8 @@ returns-clause-remembered g c =
 
 pub returns-then-nobody-clause-followed : goal.returns-then-nobody-clause-followed
 returns-then-nobody-clause-followed g c = λ are.
-    followed_due c.args.forest.now c.args.of c.args.change.now c.args.nobody c.as_slice-came.result.now c.args.agenda.now
-    c.add_moved.new.agenda c.as_slice-came.ensures c.if-nobody.true c.in_ok-add_moved.ensures.grows c.in_ok-add_moved.ensures.there
+    followed_due c.args.forest.now c.args.of c.args.change.now c.args.nobody c.as_slice-created.result.now c.args.agenda.now
+    c.add_moved.new.agenda c.as_slice-created.ensures c.if-nobody.true c.in_ok-add_moved.ensures.grows c.in_ok-add_moved.ensures.there
 
 pub returns-then-nobody-clause-remembered : goal.returns-then-nobody-clause-remembered
 returns-then-nobody-clause-remembered g c = λ are k is. c.in_ok-add_moved.ensures.grows.kept k (are k is)

@@ -9,7 +9,7 @@ use Rattle.cga_update.proofs.queue.queue_near.Goals as goal
 pub returns-clause-grows : goal.returns-clause-grows
 returns-clause-grows g c =
     let v = c.args.forest.now in
-    let moved = c.args.went.now ++ c.args.came.now in
+    let moved = c.args.removed.now ++ c.args.created.now in
     let lent = c.as_slice.result.now in
     on_ok c.add_all.result
     (grows_by (chains_of v) (λ k. Among k lent) (IsAsker v moved) c.args.agenda.now c.add_all.new.agenda
@@ -19,5 +19,5 @@ returns-clause-grows g c =
 pub returns-clause-there : goal.returns-clause-there
 returns-clause-there g c =
     on_ok c.add_all.result
-    (λ has k asker here. has k (asker_in c.args.forest.now (c.args.went.now ++ c.args.came.now) c.in_ok-askers.askers c.as_slice.result.now c.as_slice.ensures c.in_ok-askers.ensures k asker) here)
+    (λ has k asker here. has k (asker_in c.args.forest.now (c.args.removed.now ++ c.args.created.now) c.in_ok-askers.askers c.as_slice.result.now c.as_slice.ensures c.in_ok-askers.ensures k asker) here)
     c.add_all.ensures.there

@@ -1,5 +1,5 @@
 use Rattle.std.proofs.Common.{◌++◌, List, sym, ap, ◌∙◌, subst}
-use Rattle.cga_forest.specs.declared.moved.Moved.{Moved}
+use Rattle.cga_forest.specs.declared.node_change.NodeChange.{NodeChange}
 use Rattle.cga_update.specs.Roots.{HasLost}
 use Rattle.cga_update.proofs.Losing.{gone_named, less_named, lost_named, others_named, none_named, some_named}
 use Rattle.cga_update.proofs.roots.remove_root.Goals as goal
@@ -12,8 +12,8 @@ below-requires c = record { here = some_named c.args.forest.now c.args.name c.ro
 
 pub returns-clause-lost : goal.returns-clause-lost
 returns-clause-lost c = λ V lost.
-    subst (λ (list : List Moved). HasLost V c.remove_lot.new.self list) (sym (c.in_ok-extend_from_slice.ensures.items ∙ ap (λ (ys : List Moved). c.args.went.now.items ++ ys) c.as_slice.ensures))
-    (lost_named c.args.forest.now c.remove_lot.new.self c.args.name c.root_of.result c.root_of.ensures c.in-Some.root c.in-Some.is c.remove_lot.result c.remove_lot.ensures.absent c.remove_lot.ensures.there c.laws.ensures V c.args.went.now.items c.in_ok-below.below c.remove_lot.ensures.mark c.in_ok-below.ensures lost)
+    subst (λ (list : List NodeChange). HasLost V c.remove_lot.new.self list) (sym (c.in_ok-extend_from_slice.ensures.items ∙ ap (λ (ys : List NodeChange). c.args.removed.now.items ++ ys) c.as_slice.ensures))
+    (lost_named c.args.forest.now c.remove_lot.new.self c.args.name c.root_of.result c.root_of.ensures c.in-Some.root c.in-Some.is c.remove_lot.result c.remove_lot.ensures.absent c.remove_lot.ensures.there c.laws.ensures V c.args.removed.now.items c.in_ok-below.below c.remove_lot.ensures.mark c.in_ok-below.ensures lost)
 
 pub returns-clause-gone : goal.returns-clause-gone
 returns-clause-gone c = gone_named c.args.forest.now c.remove_lot.new.self c.args.name c.root_of.result c.root_of.ensures c.in-Some.root c.in-Some.is c.remove_lot.result c.remove_lot.ensures.absent c.remove_lot.ensures.there c.laws.ensures

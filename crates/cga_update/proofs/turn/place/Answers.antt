@@ -1,10 +1,10 @@
 use Rattle.std.proofs.Common.{◌∙◌, ◌++◌, refl, subst, List, ℕ}
-use Rattle.cga_forest.specs.declared.moved.Moved.{Moved}
+use Rattle.cga_forest.specs.declared.node_change.NodeChange.{NodeChange}
 use Rattle.cga_queue.specs.Remembered.{IsRemembered}
 use Rattle.cga_queue.proofs.Door.{on_ok}
 use Rattle.cga_update.specs.Askers.{IsOneOf}
 use Rattle.cga_update.specs.Follow.{IsRested}
-use Rattle.cga_update.specs.Log.{came_of, drawn_of, went_of}
+use Rattle.cga_update.specs.Log.{created_of, drawn_of, removed_of}
 use Rattle.cga_update.proofs.DueNodes.{one_each}
 use Rattle.cga_update.proofs.Following.{followed_more, laters_of}
 use Rattle.cga_update.proofs.turn.place.Goals as goal
@@ -17,10 +17,10 @@ returns-clause-placed g c =
     let was = c.args.work.now in
     let done = c.in_ok-change.ensures in
     let less = c.forget_all.new.remembered in
-    let went = c.as_slice.ensures in
-    let came = c.as_slice-2.ensures in
-    let before = c.in_ok-note_went.ensures in
-    let after = c.in_ok-note_came.ensures in
+    let removed = c.as_slice.ensures in
+    let created = c.as_slice-2.ensures in
+    let before = c.in_ok-note_removed.ensures in
+    let after = c.in_ok-note_created.ensures in
     let follow = c.in_ok-follow.ensures in
     let v = c.replace_children.new.self in
     let change = c.in_ok-change.change in
@@ -34,18 +34,18 @@ returns-clause-placed g c =
       record {
         replaced = done.replaced;
         unmarked = done.unmarked;
-        went = done.went;
-        came = done.came;
+        removed = done.removed;
+        created = done.created;
         nobody = nobody;
         nobody_left = c.has_nobody_left-nobody.ensures;
         less = less;
-        forgot = subst (λ (moved : List Moved). (k : ℕ) → IsRemembered less k → IsRemembered was.remembered k × (IsOneOf moved k → ⊥)) c.as_slice-3.ensures c.forget_all.ensures;
+        forgot = subst (λ (moved : List NodeChange). (k : ℕ) → IsRemembered less k → IsRemembered was.remembered k × (IsOneOf moved k → ⊥)) c.as_slice-3.ensures c.forget_all.ensures;
         followed = λ are. followed_more v id change nobody was.agenda next last (follow.followed are) rest.grows;
         remembered = λ are. rest.remembered (follow.remembered are);
         all_queued = λ are is. laters_of v id change nobody was.agenda next last was.all_queued (follow.followed are) (rest.all (follow.remembered are) is);
-        log = after.log ∙ (λ i. before.log i ++ came_of c.as_slice-2.result.now) ∙ (λ i. (was.log.items ++ went_of (went i)) ++ came_of (came i));
-        gone = before.gone ∙ (λ i. was.gone.items ++ drawn_of (went i));
-        come = after.come ∙ (λ i. was.come.items ++ drawn_of (came i));
+        log = after.log ∙ (λ i. before.log i ++ created_of c.as_slice-2.result.now) ∙ (λ i. (was.log.items ++ removed_of (removed i)) ++ created_of (created i));
+        gone = before.gone ∙ (λ i. was.gone.items ++ drawn_of (removed i));
+        come = after.come ∙ (λ i. was.come.items ++ drawn_of (created i));
         bounds = record {
           old = refl;
           new = refl;

@@ -5,7 +5,7 @@ use Rattle.cga_derive.specs.declared.run.Run.{Run}
 use Rattle.cga_derive.specs.Streaks.{IsBoxed}
 use Rattle.cga_expand.specs.Derivation.{priority_of}
 use Rattle.cga_derive.specs.Run.{AddsKey, KeepsKeys}
-use Rattle.cga_derive.proofs.Streaks.{boxed_came, boxed_lent, boxed_still}
+use Rattle.cga_derive.proofs.Streaks.{boxed_created, boxed_lent, boxed_still}
 use Rattle.cga_derive.proofs.Placing.{wait-keys, skip-keys}
 use Rattle.cga_derive.proofs.run.Run.place.Goals.{in-Some+in_ok-wait, in_default}
 use Rattle.cga_derive.proofs.run.Run.place.Goals as goal
@@ -15,11 +15,11 @@ returns-clause-keys c = λ sources reads.
     let parent = c.args.parent.now in
     let list = c.args.self.now.list.items in
     let old = c.args.self.now.waiting.entries in
-    let came = sited parent.priorities (placed_at parent.lot parent.path c.args.own c.args.index c.args.emitted) ∷ [] in
+    let created = sited parent.priorities (placed_at parent.lot parent.path c.args.own c.args.index c.args.emitted) ∷ [] in
     elim c.match-waiting_symbol.branch [
       | in-Some+in_ok-wait w ↦
           let entries = ap (λ (r : Run). r.waiting.entries) w.self-is in
-          subst (KeepsKeys sources parent came list old) (sym entries)
+          subst (KeepsKeys sources parent created list old) (sym entries)
           (wait-keys sources parent c.args.own c.args.index list old w.wait.new.self.waiting.entries c.args.emitted w.in-Some.symbol (sym c.waiting_symbol.ensures ∙ w.in-Some.is) (subst (λ g. AddsKey parent c.args.index (priority_of g w.in-Some.symbol) (length list) old w.wait.new.self.waiting.entries) reads w.in_ok-wait.ensures.key))
       | in_default w ↦
           skip-keys sources parent c.args.own c.args.index list old c.match-waiting_symbol.self.waiting.entries c.args.emitted (sym c.waiting_symbol.ensures ∙ w.in_default.is) (ap (λ (r : Run). r.waiting.entries) w.self-is)
@@ -59,4 +59,4 @@ returns-clause-boxed c =
           boxed_still old.list.items now.list.items old.streaks.items now.streaks.items c.requires.boxed
           (ap (λ (r : Run). r.list.items) w.self-is) (ap (λ (r : Run). r.streaks.items) w.self-is)
     ] in
-    boxed_came now.list.items c.push.new.self.items now.streaks.items c.as_slice.result.now c.push-2.new.self.items c.member_of-member.result c.world_box.result c.next_streak-streak.result still c.as_slice.ensures.value c.in_ok-push.ensures.items c.in_ok-push-2.ensures.items c.world_box.ensures.value c.next_streak-streak.ensures
+    boxed_created now.list.items c.push.new.self.items now.streaks.items c.as_slice.result.now c.push-2.new.self.items c.member_of-member.result c.world_box.result c.next_streak-streak.result still c.as_slice.ensures.value c.in_ok-push.ensures.items c.in_ok-push-2.ensures.items c.world_box.ensures.value c.next_streak-streak.ensures

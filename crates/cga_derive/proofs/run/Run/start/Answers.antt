@@ -3,7 +3,7 @@ use Rattle.cga_check.specs.declared.said.Said.{Said}
 use Rattle.cga_expand.specs.Derivation.{priority_of}
 use Rattle.cga_order.specs.ChildKeys.{IsRootKey}
 use Rattle.cga_expand.proofs.Door.{said_priority}
-use Rattle.cga_derive.proofs.Streaks.{boxed_came, boxed_lent}
+use Rattle.cga_derive.proofs.Streaks.{boxed_created, boxed_lent}
 use Rattle.cga_derive.proofs.Starting.{roots-more, keys-more, started}
 use Rattle.cga_derive.proofs.run.Run.start.Goals as goal
 
@@ -19,7 +19,7 @@ loop-lot-preserved c =
       list = c.in_ok-push.ensures.items ∙ roots-more sources c.requires.names i lot within item c.root_shape-shape.result c.root_shape-shape.ensures c.loop-lot.list.items c.loop-lot.invariant.list;
       keys = keys-more sources c.requires.names i lot within item c.root_shape-shape.result c.root_shape-shape.ensures c.loop-lot.waiting.entries c.insert.new.self.entries c.in_ok-key.key c.len-place.result c.loop-lot.list.items c.loop-lot.invariant.list c.loop-lot.invariant.keys (subst (λ n. IsRootKey sources.mode lot.name n c.in_ok-key.key) priority c.in_ok-key.ensures) (c.len-place.ensures ∙ c.loop-lot.list.ok.0) c.in_ok-insert.ensures.entries;
       symbols = c.of.ensures.grammar ∙ c.loop-lot.invariant.symbols;
-      boxed = boxed_came c.loop-lot.list.items c.push.new.self.items c.loop-lot.streaks.items c.as_slice.result.now c.push-in-loop-lot.new.self.items _ c.world_box.result c.next_streak-streak.result c.loop-lot.invariant.boxed c.as_slice.ensures.value c.in_ok-push.ensures.items c.in_ok-push-2.ensures.items c.world_box.ensures.value c.next_streak-streak.ensures;
+      boxed = boxed_created c.loop-lot.list.items c.push.new.self.items c.loop-lot.streaks.items c.as_slice.result.now c.push-in-loop-lot.new.self.items _ c.world_box.result c.next_streak-streak.result c.loop-lot.invariant.boxed c.as_slice.ensures.value c.in_ok-push.ensures.items c.in_ok-push-2.ensures.items c.world_box.ensures.value c.next_streak-streak.ensures;
     }
 
 pub next_streak-streak-requires : goal.next_streak-streak-requires

@@ -23,9 +23,9 @@ returns-in_ok-place_all-in-Ok-clause-turn g c = λ n turn.
     let same = same_read list c.args.place c.index.result.now c.index-2.result.now within c.index.ensures c.index-2.ensures in
     let asks = asks-are sources list c.as_slice.result.now c.index.result.now c.index-2.result.now c.in_ok-said.said c.asked-answers.result same (c.in_ok-said.ensures.value ∙ ap (λ g. said g c.index.result.now.shape.symbol) c.requires.symbols) c.as_slice.ensures.value c.asked-answers.ensures in
     let done = slice_set list c.args.place (record { shape = c.index_mut.result.now.shape; kind = Done }) in
-    let came = c.in_ok-place_all-in-Ok.ensures.list ∙ ap (λ (m : Member). done ++ placed_from key.lot key.path m.shape.symbol 0 c.in-Ok.emitted) same in
+    let created = c.in_ok-place_all-in-Ok.ensures.list ∙ ap (λ (m : Member). done ++ placed_from key.lot key.path m.shape.symbol 0 c.in-Ok.emitted) same in
     let keys = subst (λ (m : Member). KeepsKeys sources key (sited_children key m.shape.symbol 0 c.in-Ok.emitted) done old new) same (c.in_ok-place_all-in-Ok.ensures.keys sources (c.of.ensures.grammar ∙ c.requires.symbols)) in
-    working-done sources c.requires.names n key c.args.place list old turn c.index_mut.result.now c.index-2.result.now c.asked-answers.result c.in_ok-emitted.field-0 c.in-Ok.emitted c.place_all.new.self.list.items new c.index_mut.ensures.value c.index-2.ensures asks c.in_ok-emitted.ensures.value c.in-Ok.is came keys
+    working-done sources c.requires.names n key c.args.place list old turn c.index_mut.result.now c.index-2.result.now c.asked-answers.result c.in_ok-emitted.field-0 c.in-Ok.emitted c.place_all.new.self.list.items new c.index_mut.ensures.value c.index-2.ensures asks c.in_ok-emitted.ensures.value c.in-Ok.is created keys
 
 pub returns-in-Err-clause-turn : goal.returns-in-Err-clause-turn
 returns-in-Err-clause-turn g c = λ n turn.

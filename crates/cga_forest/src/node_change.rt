@@ -1,6 +1,6 @@
 ghost use Rattle.std.specs.Prelude.{◌≡◌};
 ghost use Rattle.cga_frame.specs.Box.{box_of};
-ghost use Rattle.cga_forest.specs.Moved.{moved_node, primitive_of};
+ghost use Rattle.cga_forest.specs.NodeChange.{moved_node, primitive_of};
 
 use crate::node::Node;
 use cga_frame::{Scope, WorldBox};
@@ -10,7 +10,7 @@ use cga_word::{Name, Primitive};
 
 /// A removed or created node, and what of it is asked once it may be gone.
 #[derive(Clone, Copy, Debug)]
-pub struct Moved {
+pub struct NodeChange {
     pub id: NodeId,
     pub lot: Name,
     /// An instance has that of its emitter.
@@ -20,11 +20,11 @@ pub struct Moved {
     pub primitive: Option<Primitive>,
 }
 
-impl Moved {
-    pub fn of(id: usize, node: &Node) -> Moved
+impl NodeChange {
+    pub fn of(id: usize, node: &Node) -> NodeChange
         ensures { result ≡ moved_node id node.now }
     {
-        Moved {
+        NodeChange {
             id: NodeId::new(id as u64),
             lot: node.shape.lot,
             symbol: node.shape.symbol,

@@ -124,19 +124,19 @@ module _ {X S A B F P : Type 0} (shapes : Shapes S) (content : Content X S A F P
   self_child c p d v up q = child_rank shapes content rules t.V t.start c t.id d t.e v (up ∙ ap Some q) t.r.was
 
   -- what goes was made at the stamp of the node or later
-  pub went_late : (n c : ℕ) (d : Seen X) → d.depth ≡ n → t.V c ≡ Some d → t.gone c ≡ true
+  pub removed_late : (n c : ℕ) (d : Seen X) → d.depth ≡ n → t.V c ≡ Some d → t.gone c ≡ true
       → IsEarlier w (birth_of w (rank d.node)) (stamp_of w s) → ⊥
-  went_late zero c d deep v g =
+  removed_late zero c d deep v g =
       let up = gone_parent c d v g in
       let z = (parent_of shapes content rules t.V t.start c up.0 d v up.1).2 in
       absurd (omega (arith, z, deep))
-  went_late (suc n) c d deep v g =
+  removed_late (suc n) c d deep v g =
       let up = gone_parent c d v g in
       let u = parent_of shapes content rules t.V t.start c up.0 d v up.1 in
       let z = u.2 in
       elim up.2 [
         | inl q ↦ late.child edit made s (rank d.node) d.index (self_child c up.0 d v up.1 q)
-        | inr goes ↦ late.further edit made s (rank u.0.node) (rank d.node) d.index (child_rank shapes content rules t.V t.start c up.0 d u.0 v up.1 u.1) (went_late n up.0 u.0 (omega (arith, z, deep)) u.1 goes)
+        | inr goes ↦ late.further edit made s (rank u.0.node) (rank d.node) d.index (child_rank shapes content rules t.V t.start c up.0 d u.0 v up.1 u.1) (removed_late n up.0 u.0 (omega (arith, z, deep)) u.1 goes)
       ]
 
   abbrev places_of : Ranked S → Ranked S → Type 0
@@ -168,10 +168,10 @@ module _ {X S A B F P : Type 0} (shapes : Shapes S) (content : Content X S A F P
       ]
 
   -- what went was right below the node, or below what went
-  pub went_below : (c : ℕ) (d : Seen X) → t.V c ≡ Some d → t.gone c ≡ true → (p : Ranked S) (i : ℕ)
+  pub removed_below : (c : ℕ) (d : Seen X) → t.V c ≡ Some d → t.gone c ≡ true → (p : Ranked S) (i : ℕ)
       → IsChild (chain_of shapes p) i (chain_of shapes (rank d.node))
       → (place_of w p ≡ place_of w s) ⊎ ((k : Kind F P) (a : A) → Keeps before p k a → Keeps after p k a → ⊥)
-  went_below c d v g p i below =
+  removed_below c d v g p i below =
       let up = gone_parent c d v g in
       let u = parent_of shapes content rules t.V t.start c up.0 d v up.1 in
       let under = child_rank shapes content rules t.V t.start c up.0 d u.0 v up.1 u.1 in

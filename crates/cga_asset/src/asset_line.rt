@@ -10,7 +10,7 @@ use std::alloc::Global;
 
 /// What a line of an asset says.
 #[derive(Drop)]
-pub enum Said {
+pub enum AssetLine {
     /// It is passed over.
     Passed,
     /// None where it isn't three coordinates.
@@ -104,21 +104,21 @@ fn face(alloc: Global, before: u32, words: &[&[u8]]) -> Result<Option<List<u32>>
 
 /// What these words say, where so many vertices stand before their line. Takes memory for a face.
 #[tactic(auto, unfolding(crate::specs::Lines::said_of))]
-pub(crate) fn said_by(alloc: Global, before: u32, words: &[&[u8]]) -> Result<Said, NoMemory>
+pub(crate) fn said_by(alloc: Global, before: u32, words: &[&[u8]]) -> Result<AssetLine, NoMemory>
     requires { before ≤ 10000 }
     ensures { IfOk result (λ said. said ≡ spec.said_of before (texts words.now)) }
 {
     let [first, rest @ ..] = words else {
-        return Ok(Said::Passed);
+        return Ok(AssetLine::Passed);
     };
     if is_passed(first) {
-        return Ok(Said::Passed);
+        return Ok(AssetLine::Passed);
     }
     if is(first, b"v") {
-        return Ok(Said::Vertex(vertex(rest)));
+        return Ok(AssetLine::Vertex(vertex(rest)));
     }
     if is(first, b"f") {
-        return Ok(Said::Face(face(alloc, before, rest)?));
+        return Ok(AssetLine::Face(face(alloc, before, rest)?));
     }
-    Ok(Said::Unknown)
+    Ok(AssetLine::Unknown)
 }

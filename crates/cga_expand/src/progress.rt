@@ -5,7 +5,7 @@ use cga_shape::Emitted;
 /// How far an expansion has come: its current scope, what it has emitted, and how many parts its
 /// splits and components have made.
 #[derive(Drop)]
-pub struct State {
+pub struct Progress {
     pub scope: Scope,
     pub children: List<Emitted>,
     pub parts: usize,

@@ -9,11 +9,11 @@ use Rattle.cga_order.specs.World.{Among}
 use Rattle.cga_tree.specs.Tree.{IsTree}
 use Rattle.cga_tree.specs.Replaced.{IsReplaced}
 use Rattle.cga_forest.specs.declared.slot_entry.SlotEntry.{SlotEntry}
-use Rattle.cga_forest.specs.declared.moved.Moved.{Moved}
+use Rattle.cga_forest.specs.declared.node_change.NodeChange.{NodeChange}
 use Rattle.cga_forest.specs.declared.node.Node.{Node}
 use Rattle.cga_forest.specs.Node.{fits}
 use Rattle.cga_forest.specs.View.{Seen, kids, present_of}
-use Rattle.cga_forest.specs.Moved.{is_listed, moved_node, moved_of, ListsMoved}
+use Rattle.cga_forest.specs.NodeChange.{is_listed, moved_node, moved_of, ListsOnlyIn}
 use Rattle.cga_forest.specs.Gathered.{found, going, coming, coming_at, is_come}
 use Rattle.cga_forest.specs.Tree.{goes, stay_of}
 use Rattle.cga_forest.proofs.Present.{present_some, kids_present}
@@ -25,17 +25,17 @@ use Rattle.cga_forest.proofs.Moves.{going_find, going_has, going_once}
 
 -- ---- the nodes of a list by their numbers
 
-listed_in : (list : List Moved) (c : ℕ) → is_listed list c ≡ true → (m : Moved) × Among m list × (m.id ≡ c)
+listed_in : (list : List NodeChange) (c : ℕ) → is_listed list c ≡ true → (m : NodeChange) × Among m list × (m.id ≡ c)
 listed_in [] c h = absurd (cc)
 listed_in (m ∷ ms) c h = elim (or_cases (nat_eq m.id c) (is_listed ms c) h) [
   | inl y ↦ (m, inl refl, eqb-true m.id c y)
   | inr y ↦ (let r = listed_in ms c y in (r.0, inr r.1, r.2))
 ]
 
-listed_has : (list : List Moved) (m : Moved) → Among m list → is_listed list m.id ≡ true
+listed_has : (list : List NodeChange) (m : NodeChange) → Among m list → is_listed list m.id ≡ true
 listed_has [] m h = absurd h
 listed_has (x ∷ xs) m h = elim h [
-  | inl q ↦ or_left (nat_eq x.id m.id) (is_listed xs m.id) (eq-eqb x.id m.id (ap (λ (y : Moved). y.id) q))
+  | inl q ↦ or_left (nat_eq x.id m.id) (is_listed xs m.id) (eq-eqb x.id m.id (ap (λ (y : NodeChange). y.id) q))
   | inr r ↦ or_right (nat_eq x.id m.id) (is_listed xs m.id) (listed_has xs m r)
 ]
 
@@ -134,7 +134,7 @@ module _ (s : ℕ → Option SlotEntry) (id n : ℕ) (news : List Node) (e : See
       (λ h.
       let l = listed_in (found s goers) c h in
       let f = found_in s l.0 goers l.1 in
-      let q : f.0 ≡ c = ap (λ (m : Moved). m.id) (sym f.4) ∙ l.2 in
+      let q : f.0 ≡ c = ap (λ (m : NodeChange). m.id) (sym f.4) ∙ l.2 in
       ap goes_now (sym q) ∙ goers_gone f.0 f.2)
       (λ g.
       let u = gone_there c g in
@@ -155,8 +155,8 @@ module _ (s : ℕ → Option SlotEntry) (T : ℕ → Option Seen) (id n : ℕ) (
   gone_apart : (c : ℕ) → gone c ≡ true → c ≢ id
   gone_apart c g q = let z : true ≡ false = sym g ∙ ap gone q ∙ r.self in (cc)
 
-  pub lists_went : ListsMoved (λ c. present_of (s c)) T (found s leaving)
-  lists_went = record {
+  pub lists_removed : ListsOnlyIn (λ c. present_of (s c)) T (found s leaving)
+  lists_removed = record {
     once = found_once s leaving (goers_once s id n news e tree r.was);
     each = λ m. (
       (λ h.
@@ -176,14 +176,14 @@ module _ (s : ℕ → Option SlotEntry) (T : ℕ → Option Seen) (id n : ℕ) (
             | inl y ↦ y
             | inr f ↦ (let z : None ≡ Some h.1 = sym h.3 ∙ r.rest c h.1 ne h.2 ∙ ap (λ x. if x then None else Some h.1) f in absurd (cc))
           ] in
-          subst (λ (x : Moved). Among x (found s leaving)) (ap (λ (x : Seen). moved_of c x) w.2 ∙ sym h.4) (found_has s leaving c w.0 (gone_goers s id n news e tree r.was c g) w.1)),
+          subst (λ (x : NodeChange). Among x (found s leaving)) (ap (λ (x : Seen). moved_of c x) w.2 ∙ sym h.4) (found_has s leaving c w.0 (gone_goers s id n news e tree r.was c g) w.1)),
     );
   }
 
   -- a new child that is no old one at its place came
-  came_new : (i c : ℕ) → slice_get now.children i ≡ Some c → (slice_get e.children i ≡ Some c → ⊥)
+  created_new : (i c : ℕ) → slice_get now.children i ≡ Some c → (slice_get e.children i ≡ Some c → ⊥)
       → (present_of (s c) ≡ None) × ((d : Seen) × (T c ≡ Some d))
-  came_new i c here new = elim (r.each i c here).2 [
+  created_new i c here new = elim (r.each i c here).2 [
     | inl o ↦ absurd (new o.0)
     | inr v ↦ (v.0, (v.1.seen, v.1.here))
   ]
@@ -211,13 +211,13 @@ module _ (s : ℕ → Option SlotEntry) (T : ℕ → Option Seen) (id n : ℕ) (
     comers_once : Apart comers
     comers_once = coming_once (kids (s id)) (kids (t id)) (λ i j c p q. now_place i j c (child_now i c p) (child_now j c q)) (length (kids (t id)))
 
-    comer_came : (c : ℕ) → Member comers c → (present_of (s c) ≡ None) × ((d : Seen) × (T c ≡ Some d))
-    comer_came c m =
+    comer_created : (c : ℕ) → Member comers c → (present_of (s c) ≡ None) × ((d : Seen) × (T c ≡ Some d))
+    comer_created c m =
         let k = coming_in (kids (s id)) (kids (t id)) (length (kids (t id))) c m in
-        came_new k.0 c (child_now k.0 c k.2) (λ o. k.3 (ap (λ xs. slice_get xs k.0) olds ∙ o))
+        created_new k.0 c (child_now k.0 c k.2) (λ o. k.3 (ap (λ xs. slice_get xs k.0) olds ∙ o))
 
-    came_comer : (c : ℕ) (d : Seen) → present_of (s c) ≡ None → T c ≡ Some d → Member comers c
-    came_comer c d none h = elim (r.came c none) [
+    created_comer : (c : ℕ) (d : Seen) → present_of (s c) ≡ None → T c ≡ Some d → Member comers c
+    created_comer c d none h = elim (r.created c none) [
       | inl y ↦ (let z : None ≡ Some d = sym y ∙ h in absurd (cc))
       | inr at ↦ (
           let here : slice_get (kids (t id)) at.0 ≡ Some c = ap (λ xs. slice_get xs at.0) kids_now ∙ at.1 in
@@ -226,14 +226,14 @@ module _ (s : ℕ → Option SlotEntry) (T : ℕ → Option Seen) (id n : ℕ) (
           let z : None ≡ Some x.0 = sym none ∙ x.1 in (cc)))
     ]
 
-    pub lists_came : ListsMoved T (λ c. present_of (s c)) (found t comers)
-    lists_came = record {
+    pub lists_created : ListsOnlyIn T (λ c. present_of (s c)) (found t comers)
+    lists_created = record {
       once = found_once t comers comers_once;
       each = λ m. (
         (λ h.
             let f = found_in t m comers h in
             let c = f.0 in
-            let u = comer_came c f.2 in
+            let u = comer_created c f.2 in
             let w = present_some (t c) u.1.0 (sym (shows c) ∙ u.1.1) in
             let z : Some f.1 ≡ Some w.0 = sym f.3 ∙ w.1 in
             let y : f.1 ≡ w.0 = (cc) in
@@ -241,6 +241,6 @@ module _ (s : ℕ → Option SlotEntry) (T : ℕ → Option Seen) (id n : ℕ) (
         (λ h.
             let c = h.0 in
             let w = present_some (t c) h.1 (sym (shows c) ∙ h.2) in
-            subst (λ (x : Moved). Among x (found t comers)) (ap (λ (x : Seen). moved_of c x) w.2 ∙ sym h.4) (found_has t comers c w.0 (came_comer c h.1 h.3 h.2) w.1)),
+            subst (λ (x : NodeChange). Among x (found t comers)) (ap (λ (x : Seen). moved_of c x) w.2 ∙ sym h.4) (found_has t comers c w.0 (created_comer c h.1 h.3 h.2) w.1)),
       );
     }
