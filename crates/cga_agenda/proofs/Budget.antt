@@ -36,7 +36,9 @@ module _ {N A B F P : Type 0} (edit : Edit N A B F P) (laws : IsEdit edit) (star
     made = λ m i. inl i;
   }
 
-  module _ (before after : Nodes) (s : N) (queued requeued : N → Bool) (turned worked : List N) (expanded : Bool) (known : List N) (good : IsWorking edit start before queued turned worked) (turn : IsTurnOf edit before after s queued requeued expanded) (knows : IsKnown edit before worked known) where
+  module _ (before after : Nodes) (s : N) (queued requeued : N → Bool) (turned worked : List N) (expanded : Bool)
+      (known : List N) (good : IsWorking edit start before queued turned worked)
+      (turn : IsTurnOf edit before after s queued requeued expanded) (knows : IsKnown edit before worked known) where
     abbrev reworked : List N
     reworked = next_worked s expanded worked
 
@@ -125,7 +127,12 @@ module _ {N A B F P : Type 0} (edit : Edit N A B F P) (laws : IsEdit edit) (star
         × ((m : N) → Among m edit.new.roots → IsBefore w l (birth_of w m))
     limit = elim (least_queued w laws.new queued now) [
       | inl none ↦ (None, (λ n k a h q b. let x : true ≡ false = sym q ∙ none n k a h in cc), (λ t i. tt), (λ m i. tt))
-      | inr (s, k, a, there, q, least) ↦ (Some (stamp_of w s), (λ n j b h t e. least n j b h t e), (λ t i. good.later t i s k a there q), (λ m i. root-before edit.mode (edit.chain m) (edit.chain s) (laws.new.root m i)))
+      | inr (s, k, a, there, q, least) ↦ (
+        Some (stamp_of w s),
+        (λ n j b h t e. least n j b h t e),
+        (λ t i. good.later t i s k a there q),
+        (λ m i. root-before edit.mode (edit.chain m) (edit.chain s) (laws.new.root m i)),
+      )
     ]
 
     consistent : IsConsistent w limit.0 (members_of now)
@@ -170,6 +177,8 @@ module _ {N A B F P : Type 0} (edit : Edit N A B F P) (laws : IsEdit edit) (star
           let con = right_consistent w laws.new now queued None good.tree good.right (λ n k a h q b. let x : true ≡ false = sym q ∙ empty n k a h in cc) in
           let same = same_members w laws.new (members_of now) con taken reached run quiet in
           let one = length-once (shapes_of (members_of now)) (shapes_of reached) once (λ m i. let g = Among-Has (members_of now) m i in Has-Among reached m g.0 ((same m g.0).0 g.1)) in
-          let other = length-once (shapes_of reached) (shapes_of (members_of now)) (once-reached w laws.new taken reached run roots) (λ m i. let g = Among-Has reached m i in Has-Among (members_of now) m g.0 ((same m g.0).1 g.1)) in
+          let other = length-once (shapes_of reached) (shapes_of (members_of now))
+          (once-reached w laws.new taken reached run roots) (λ m i. let g = Among-Has reached m i in
+          Has-Among (members_of now) m g.0 ((same m g.0).1 g.1)) in
           let nodes : length (shapes_of (members_of now)) ≡ length now = length-map (λ m. m.shape) (members_of now) ∙ length-map (λ m. record { shape = m.shape; kind = m.kind }) now in
           (same, omega (arith, one, other, size, nodes))

@@ -9,7 +9,9 @@ use Rattle.cga_agenda.specs.Work.{IsWorking, IsStart}
 use Rattle.cga_agenda.specs.Exact.{IsExact}
 use Rattle.cga_agenda.proofs.Working.{Keeps-NonInstance, NonInstance-Keeps, settled_done, was_right}
 
-module _ {N A B F P : Type 0} (edit : Edit N A B F P) (laws : IsEdit edit) (start : List (Node N A F P)) (started : IsStart edit start) (now : List (Node N A F P)) (queued : N → Bool) (turned worked : List N) (good : IsWorking edit start now queued turned worked) (empty : (n : N) (k : Kind F P) (a : A) → Keeps now n k a → queued n ≡ false) where
+module _ {N A B F P : Type 0} (edit : Edit N A B F P) (laws : IsEdit edit) (start : List (Node N A F P))
+    (started : IsStart edit start) (now : List (Node N A F P)) (queued : N → Bool) (turned worked : List N)
+    (good : IsWorking edit start now queued turned worked) (empty : (n : N) (k : Kind F P) (a : A) → Keeps now n k a → queued n ≡ false) where
   abbrev w : World N A F P
   w = new_world edit
 

@@ -21,7 +21,8 @@ module _ {N A B F P : Type 0} (edit : Edit N A B F P) (start : List (Node N A F 
     worked = [];
     learnt = edit.new.roots;
     working = begin.begins edit ready.laws start ready.started first.nodes first.queued ready.begun;
-    recorded = subst (IsRecord edit start first.nodes [] first.gone) (sym ready.come) (record_of.record_begins edit ready.laws start ready.started first.nodes first.queued ready.begun first.gone ready.gone);
+    recorded = subst (IsRecord edit start first.nodes [] first.gone) (sym ready.come)
+        (record_of.record_begins edit ready.laws start ready.started first.nodes first.queued ready.begun first.gone ready.gone);
     knows = budgets.known_begins edit ready.laws start ready.started first.nodes first.queued ready.begun (roots_once (new_world edit) ready.laws.new);
     turns_are = refl;
     known_are = e ∙ ready.roots;
@@ -36,7 +37,10 @@ module _ {N A B F P : Type 0} (edit : Edit N A B F P) (start : List (Node N A F 
       worked = next_worked s expanded k.worked;
       learnt = next_known edit now.nodes s expanded k.learnt;
       working = work.next edit ready.laws start ready.started now.nodes after.nodes s now.queued after.queued k.turned k.worked expanded k.working turn;
-      recorded = subst (λ g. IsRecord edit start after.nodes (next_worked s expanded k.worked) g after.come) (sym gone_is) (subst (IsRecord edit start after.nodes (next_worked s expanded k.worked) (now.gone ++ removed)) (sym come_is) (record_of.record_next edit ready.laws start ready.started now.nodes after.nodes s now.queued after.queued k.turned k.worked expanded k.working turn now.gone now.come removed created k.recorded change));
+      recorded = subst (λ g. IsRecord edit start after.nodes (next_worked s expanded k.worked) g after.come)
+          (sym gone_is) (subst (IsRecord edit start after.nodes (next_worked s expanded k.worked)
+          (now.gone ++ removed)) (sym come_is) (record_of.record_next edit ready.laws start ready.started now.nodes
+          after.nodes s now.queued after.queued k.turned k.worked expanded k.working turn now.gone now.come removed created k.recorded change));
       knows = budgets.known_grows edit ready.laws start ready.started now.nodes after.nodes s now.queued after.queued k.turned k.worked expanded k.learnt k.working turn k.knows;
       turns_are = omega (arith, k.turns_are);
       known_are = known_more expanded tells;
@@ -53,7 +57,8 @@ module _ {N A B F P : Type 0} (edit : Edit N A B F P) (start : List (Node N A F 
         calls_more false t = omega (arith, t, k.calls_are)
 
     pub over_early : (budget : ℕ) → (budget < known) ⊎ (budget < turns) → IsOverBudget (new_world edit) budget
-    over_early budget more = overs.early edit ready.laws start ready.started now.nodes now.queued k.turned k.worked k.working k.learnt k.knows budget (elim more [ inl lt ↦ inl (omega (arith, lt, k.known_are)) | inr lt ↦ inr (omega (arith, lt, k.turns_are)) ])
+    over_early budget more = overs.early edit ready.laws start ready.started now.nodes now.queued k.turned k.worked
+        k.working k.learnt k.knows budget (elim more [ inl lt ↦ inl (omega (arith, lt, k.known_are)) | inr lt ↦ inr (omega (arith, lt, k.turns_are)) ])
 
     module _ (empty : NoneQueued edit now.nodes now.queued) (once : StandOnce now.nodes) (budget : ℕ) where
       pub over_late : budget < length now.nodes → IsOverBudget (new_world edit) budget
@@ -61,7 +66,8 @@ module _ {N A B F P : Type 0} (edit : Edit N A B F P) (start : List (Node N A F 
 
       pub done : (then : ℕ) → then ≡ since → length now.nodes ≤ budget → IsDone edit start now budget calls then
       done then still not_more = record {
-        within = λ o. let lt = (overs.late edit ready.laws start ready.started now.nodes now.queued k.turned k.worked k.working empty (roots_once (new_world edit) ready.laws.new) once budget).0 o in omega (arith, lt, not_more);
+        within = λ o. let lt = (overs.late edit ready.laws start ready.started now.nodes now.queued k.turned
+            k.worked k.working empty (roots_once (new_world edit) ready.laws.new) once budget).0 o in omega (arith, lt, not_more);
         turned = k.turned;
         worked = k.worked;
         working = k.working;

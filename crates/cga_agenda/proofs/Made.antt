@@ -48,7 +48,8 @@ module _ {N A F P : Type 0} (world : World N A F P) (laws : IsWorld world) where
   pub shapes-become : (s : N) (k : Kind F P) (xs : Members) → shapes_of (map (become world s k) xs) ≡ shapes_of xs
   shapes-become s k [] = refl
   shapes-become s k (m ∷ xs) =
-      let head : (become world s k m).shape ≡ m.shape = elim (same_place (world.chain m.shape) (world.chain s)) as (λ b. (cond b (record { shape = m.shape; kind = k }) m).shape ≡ m.shape) [ true ↦ refl | false ↦ refl ] in
+      let head : (become world s k m).shape ≡ m.shape = elim (same_place (world.chain m.shape)
+      (world.chain s)) as (λ b. (cond b (record { shape = m.shape; kind = k }) m).shape ≡ m.shape) [ true ↦ refl | false ↦ refl ] in
       λ i. head i ∷ shapes-become s k xs i
 
   pub shapes-start : (xs : List N)
@@ -64,7 +65,8 @@ module _ {N A F P : Type 0} (world : World N A F P) (laws : IsWorld world) where
       let k = stamps.kind_after world (outcome world C s) in
       let cs = stamps.children_of world (outcome world C s) in
       let is : D ≡ map (become world s k) C ++ cs = step.told ∙ stamps.told-is world C s (outcome world C s) in
-      let shapes : shapes_of D ≡ shapes_of C ++ shapes_of cs = ap (λ x. shapes_of x) is ∙ (map-append (λ m. m.shape) (map (become world s k) C) cs ∙ ap (λ x. x ++ shapes_of cs) (shapes-become s k C)) in
+      let shapes : shapes_of D ≡ shapes_of C ++ shapes_of cs = ap (λ x. shapes_of x) is
+      ∙ (map-append (λ m. m.shape) (map (become world s k) C) cs ∙ ap (λ x. x ++ shapes_of cs) (shapes-become s k C)) in
       subst Once (sym shapes) (Once-append (shapes_of C) (shapes_of cs) (once-reached taken C reached o) (children (outcome world C s) refl)
       (λ x h g.
       let u = Among-Has C x h in

@@ -124,7 +124,9 @@ module _ {N A F P : Type 0} (world : World N A F P) (laws : IsWorld world) where
         ],
       )
 
-module _ {N A B F P : Type 0} (edit : Edit N A B F P) (laws : IsEdit edit) (start : List (Node N A F P)) (started : IsStart edit start) (now : List (Node N A F P)) (queued : N → Bool) (turned worked : List N) (good : IsWorking edit start now queued turned worked) where
+module _ {N A B F P : Type 0} (edit : Edit N A B F P) (laws : IsEdit edit) (start : List (Node N A F P))
+    (started : IsStart edit start) (now : List (Node N A F P)) (queued : N → Bool) (turned worked : List N)
+    (good : IsWorking edit start now queued turned worked) where
   abbrev w : World N A F P
   w = new_world edit
 

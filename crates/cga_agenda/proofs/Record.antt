@@ -62,7 +62,8 @@ module _ {N A B F P : Type 0} (edit : Edit N A B F P) (laws : IsEdit edit) (star
       balance = change.balance;
     }
 
-  module _ (before after : Nodes) (s : N) (queued requeued : N → Bool) (turned worked : List N) (expanded : Bool) (good : IsWorking edit start before queued turned worked) (turn : IsTurnOf edit before after s queued requeued expanded) where
+  module _ (before after : Nodes) (s : N) (queued requeued : N → Bool) (turned worked : List N) (expanded : Bool)
+      (good : IsWorking edit start before queued turned worked) (turn : IsTurnOf edit before after s queued requeued expanded) where
     abbrev reworked : List N
     reworked = next_worked s expanded worked
 
@@ -133,7 +134,8 @@ module _ {N A B F P : Type 0} (edit : Edit N A B F P) (laws : IsEdit edit) (star
     there_next : (d : Drawn N P) → Draws after d → Draws before d ⊎ IsMade edit reworked d.shape
     there_next d h = elim (where_from edit laws start started before after s queued requeued turned worked expanded good turn d.shape (Instance d.solid) h.0 h.1) [
       | inl e ↦
-          let now = (is_turn edit laws start started before after s queued requeued turned worked expanded good turn).now (Instance d.solid) h.0 (subst (λ y. Keeps after y (Instance d.solid) h.0) e h.1) in
+          let now = (is_turn edit laws start started before after s queued requeued turned worked expanded good
+          turn).now (Instance d.solid) h.0 (subst (λ y. Keeps after y (Instance d.solid) h.0) e h.1) in
           let x : true ≡ false = now.0 in cc
       | inr r ↦ elim r.1 [
         | inl old ↦ inl (h.0, old)
@@ -159,12 +161,15 @@ module _ {N A B F P : Type 0} (edit : Edit N A B F P) (laws : IsEdit edit) (star
                 let is = alone edit laws start started before after s queued requeued turned worked expanded good turn q now.0 now.1 now.2 same in
                 elim turn.was.4 [
                   | inl x ↦ subst (Among q) (sym (told_true s worked expanded x.0)) (inl (sym is))
-                  | inr p ↦ absurd (gone (solids_stay turn.was.0 d.shape d.solid i (edit.old.expand s turn.was.1) (subst (λ y. IsChild (edit.chain y) i (edit.chain d.shape)) is child) (settled p.1.done) (renewed_settled p.1) h))
+                  | inr p ↦ absurd (gone (solids_stay turn.was.0 d.shape d.solid i (edit.old.expand s turn.was.1)
+                      (subst (λ y. IsChild (edit.chain y) i (edit.chain d.shape)) is child) (settled p.1.done) (renewed_settled p.1) h))
                 ]
             | inr apart ↦ elim (removed.below q i child) [
               | inl same ↦ absurd (apart same)
               | inr lost ↦
-                  let there = as_it_was edit laws start started before after s queued requeued turned worked expanded good turn q was.0 now.0 was.1 now.1 (λ e. apart (ap (place_of w) e)) was.2 now.2 (was.3 ∙ sym now.3) (λ e. let x : true ≡ false = sym e ∙ now.3 in cc) in
+                  let there = as_it_was edit laws start started before after s queued requeued turned worked
+                  expanded good turn q was.0 now.0 was.1 now.1 (λ e. apart (ap (place_of w) e)) was.2 now.2
+                  (was.3 ∙ sym now.3) (λ e. let x : true ≡ false = sym e ∙ now.3 in cc) in
                   absurd (lost now.0 now.1 there now.2)
             ]
           ]
@@ -212,7 +217,9 @@ module _ {N A B F P : Type 0} (edit : Edit N A B F P) (laws : IsEdit edit) (star
         balance = λ test. omega (arith, kept.balance test, change.balance test, count_append test come created, count_append test gone removed);
       }
 
-  module _ (now : Nodes) (queued : N → Bool) (turned worked : List N) (good : IsWorking edit start now queued turned worked) (gone come : List (Drawn N P)) (kept : IsRecord edit start now worked gone come) (empty : (n : N) (k : Kind F P) (a : A) → Keeps now n k a → queued n ≡ false) where
+  module _ (now : Nodes) (queued : N → Bool) (turned worked : List N)
+      (good : IsWorking edit start now queued turned worked) (gone come : List (Drawn N P))
+      (kept : IsRecord edit start now worked gone come) (empty : (n : N) (k : Kind F P) (a : A) → Keeps now n k a → queued n ≡ false) where
     done : IsExact edit start now worked
     done = exact edit laws start started now queued turned worked good empty
 

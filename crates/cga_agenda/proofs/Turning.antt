@@ -16,7 +16,10 @@ use Rattle.cga_agenda.proofs.Working.{path_not_empty, Keeps-NonInstance, NonInst
 use Rattle.cga_agenda.proofs.Working.{still_settled, same_children, waiting_is, settled_done, new_not, kept_new}
 use Rattle.cga_agenda.proofs.Working.{order, was_right, one_kind, one_kind_old, parents_same, root_no_child, placed}
 
-module _ {N A B F P : Type 0} (edit : Edit N A B F P) (laws : IsEdit edit) (start : List (Node N A F P)) (started : IsStart edit start) (before after : List (Node N A F P)) (s : N) (queued requeued : N → Bool) (turned worked : List N) (expanded : Bool) (good : IsWorking edit start before queued turned worked) (turn : IsTurnOf edit before after s queued requeued expanded) where
+module _ {N A B F P : Type 0} (edit : Edit N A B F P) (laws : IsEdit edit) (start : List (Node N A F P))
+    (started : IsStart edit start) (before after : List (Node N A F P)) (s : N) (queued requeued : N → Bool)
+    (turned worked : List N) (expanded : Bool) (good : IsWorking edit start before queued turned worked)
+    (turn : IsTurnOf edit before after s queued requeued expanded) where
   abbrev Nodes : Type 0
   Nodes = List (Node N A F P)
 
@@ -109,7 +112,9 @@ module _ {N A B F P : Type 0} (edit : Edit N A B F P) (laws : IsEdit edit) (star
     | inl e ↦ absurd (good.waiting s turn.was.0 turn.was.1 turn.was.2 ((waiting_is edit) turn.was.0 e) kept)
     | inr e ↦
         let old = s_old e in
-        (same_children edit) edit.old start before s c turn.was.0 turn.was.0 i (edit.old.expand s turn.was.1) ((one_kind_old edit laws start started) c) child ((was_right edit laws start started) s turn.was.0 turn.was.1 old.same turn.was.3).1 (s_settled e) is
+        (same_children edit) edit.old start before s c turn.was.0 turn.was.0 i (edit.old.expand s turn.was.1)
+        ((one_kind_old edit laws start started) c) child ((was_right edit laws start started) s turn.was.0
+        turn.was.1 old.same turn.was.3).1 (s_settled e) is
   ]
 
   -- what is kept after the turn was there before it
@@ -181,7 +186,8 @@ module _ {N A B F P : Type 0} (edit : Edit N A B F P) (laws : IsEdit edit) (star
       | inl x ↦ x.1.now k a h
       | inr x ↦
           let same = x.1.still k a h in
-          let settled = subst (IsSettled w after s turn.was.0) (sym (laws.outcome s turn.was.1 x.1.setting)) ((placed edit laws start started) before after s turn.was.0 turn.was.1 good.tree x.1.children (s_settled x.1.done)) in (
+          let settled = subst (IsSettled w after s turn.was.0) (sym (laws.outcome s turn.was.1 x.1.setting))
+          ((placed edit laws start started) before after s turn.was.0 turn.was.1 good.tree x.1.children (s_settled x.1.done)) in (
             ap is_instance same.0 ∙ turn.was.3,
             same.1 ∙ x.1.asks,
             subst (λ b. IsSettled w after s k (edit.new.expand s b)) (sym same.1) (subst (λ j. IsSettled w after s j (edit.new.expand s turn.was.1)) (sym same.0) settled),

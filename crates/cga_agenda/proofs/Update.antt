@@ -142,12 +142,22 @@ module _ {N A B F P : Type 0} (edit : Edit N A B F P) (laws : IsEdit edit) where
         ],
       )
 
-  module _ (start : List (Node N A F P)) (started : IsStart edit start) (now : List (Node N A F P)) (queued : N → Bool) (turned worked : List N) (gone come : List (Drawn N P)) (good : IsWorking edit start now queued turned worked) (kept : IsRecord edit start now worked gone come) (empty : (n : N) (k : Kind F P) (a : A) → Keeps now n k a → queued n ≡ false) (old_roots : Once edit.old.roots) (new_roots : Once edit.new.roots) (start_once : Once (shapes_of (members_of start))) (now_once : Once (shapes_of (members_of now))) (taken_old taken_new : List N) (old new : List (Placed N F P)) (old_run : Reached (old_world edit) taken_old old) (old_quiet : NothingWaits (old_world edit) None old) (new_run : Reached w taken_new new) (new_quiet : NothingWaits w None new) where
+  module _ (start : List (Node N A F P)) (started : IsStart edit start) (now : List (Node N A F P))
+      (queued : N → Bool) (turned worked : List N) (gone come : List (Drawn N P))
+      (good : IsWorking edit start now queued turned worked) (kept : IsRecord edit start now worked gone come)
+      (empty : (n : N) (k : Kind F P) (a : A) → Keeps now n k a → queued n ≡ false)
+      (old_roots : Once edit.old.roots) (new_roots : Once edit.new.roots)
+      (start_once : Once (shapes_of (members_of start))) (now_once : Once (shapes_of (members_of now)))
+      (taken_old taken_new : List N) (old new : List (Placed N F P))
+      (old_run : Reached (old_world edit) taken_old old) (old_quiet : NothingWaits (old_world edit) None old)
+      (new_run : Reached w taken_new new) (new_quiet : NothingWaits w None new) where
     done : IsExact edit start now worked
     done = exact edit laws start started now queued turned worked good empty
 
     olds : SameMembers (members_of start) old
-    olds = same_members (old_world edit) laws.old (members_of start) (right_consistent (old_world edit) laws.old start (λ n. false) None started.tree started.right (λ n k a h q b. let x : false ≡ true = q in cc)) taken_old old old_run old_quiet
+    olds = same_members (old_world edit) laws.old (members_of start)
+        (right_consistent (old_world edit) laws.old start (λ n. false) None started.tree started.right
+        (λ n k a h q b. let x : false ≡ true = q in cc)) taken_old old old_run old_quiet
 
     news : SameMembers (members_of now) new
     news = same_members w laws.new (members_of now) done.consistent taken_new new new_run new_quiet

@@ -56,7 +56,8 @@ pending_push total [] [] f n e = refl
 pending_push total [] (l ∷ ls) f n e = absurd (omega (arith, e))
 pending_push total (x ∷ xs) [] f n e = absurd (omega (arith, e))
 pending_push total (x ∷ xs) (l ∷ ls) f n e =
-    elim (fits total x) as (λ (b : Bool). cond b (pending total (xs ++ f ∷ []) (ls ++ n ∷ [])) (Err (BadFace l)) ≡ and_then (cond b (pending total xs ls) (Err (BadFace l))) (λ u. cond (fits total f) (Ok tt) (Err (BadFace n)))) [
+    elim (fits total x) as (λ (b : Bool). cond b (pending total (xs ++ f ∷ []) (ls ++ n ∷ [])) (Err (BadFace l))
+    ≡ and_then (cond b (pending total xs ls) (Err (BadFace l))) (λ u. cond (fits total f) (Ok tt) (Err (BadFace n)))) [
       | true ↦ pending_push total xs ls f n (omega (arith, e))
       | false ↦ refl
     ]
@@ -72,10 +73,12 @@ pub face_added : (total n : ℕ) (m : SolidMesh) (lines : List ℕ) (f : List �
 face_added total n m lines f e =
     let after : Checked → Result SolidMesh AssetFault = λ (p : Checked). and_then p (λ u. unless_faulty (faces_fault (length m.faces) n) (with_face m f)) in
     ap after (pending_push total m.faces lines f n e)
-    ∙ elim (pending total m.faces lines) as (λ (p : Checked). after (and_then p (λ u. cond (fits total f) (Ok tt) (Err (BadFace n)))) ≡ and_then (and_then p (λ u. Ok m)) (λ a. added total n a (Face (Some f)))) [
+    ∙ elim (pending total m.faces lines) as (λ (p : Checked). after
+    (and_then p (λ u. cond (fits total f) (Ok tt) (Err (BadFace n)))) ≡ and_then (and_then p (λ u. Ok m)) (λ a. added total n a (Face (Some f)))) [
       | Err x ↦ refl
       | Ok u ↦
-          elim (fits total f) as (λ (b : Bool). after (cond b (Ok tt) (Err (BadFace n))) ≡ cond (not b) (Err (BadFace n)) (cond (nat_le most_faces (length m.faces)) (Err (TooManyFaces n)) (Ok (with_face m f)))) [
+          elim (fits total f) as (λ (b : Bool). after (cond b (Ok tt) (Err (BadFace n))) ≡ cond (not b)
+          (Err (BadFace n)) (cond (nat_le most_faces (length m.faces)) (Err (TooManyFaces n)) (Ok (with_face m f)))) [
             | false ↦ refl
             | true ↦
                 elim (nat_le most_faces (length m.faces)) as (λ (b : Bool). unless_faulty (cond b (Some (TooManyFaces n)) None) (with_face m f) ≡ cond b (Err (TooManyFaces n)) (Ok (with_face m f))) [

@@ -30,7 +30,9 @@ one_line : (total n : ℕ) (a : SolidMesh) (ls : List Line) (l : Line)
     (λ b. with_line total (counted (n + length ls)) b l)
 one_line total n a [] l = as_it_is (with_line total (counted n) a l) ∙ ap (λ (k : ℕ). with_line total (counted k) a l) (omega arith)
 one_line total n a (x ∷ ls) l =
-    elim (with_line total (counted n) a x) as (λ (r : Made). and_then r (λ b. with_lines total (n + 1) b (ls ++ l ∷ [])) ≡ and_then (and_then r (λ b. with_lines total (n + 1) b ls)) (λ b. with_line total (counted (n + suc (length ls))) b l)) [
+    elim (with_line total (counted n) a x) as (λ (r : Made). and_then r
+    (λ b. with_lines total (n + 1) b (ls ++ l ∷ [])) ≡ and_then
+    (and_then r (λ b. with_lines total (n + 1) b ls)) (λ b. with_line total (counted (n + suc (length ls))) b l)) [
       | Ok b ↦ one_line total (n + 1) b ls l ∙ ap (λ (k : ℕ). and_then (with_lines total (n + 1) b ls) (λ c. with_line total (counted k) c l)) (omega arith)
       | Err e ↦ refl
     ]
@@ -131,7 +133,9 @@ pub long_read : (r s : AssetReader) (lines : List Line) (l : Line) → is_long l
     → s.fault ≡ Some (unwrap_or r.fault (LineTooLong s.lines)) → StandsFor s (lines ++ l ∷ [])
 unfolding made_by
 long_read r s lines l long h number vertices mesh face_lines fault =
-    next_line r s lines l h number (vertices ∙ sym (ap (λ (b : Bool). next_count b r.vertex_lines) (none_long l long))) (ap (λ (m : SolidMesh). length m.faces) mesh ∙ (h.paired ∙ ap (λ (k : List ℕ). length k) (sym face_lines)))
+    next_line r s lines l h number
+    (vertices ∙ sym (ap (λ (b : Bool). next_count b r.vertex_lines) (none_long l long)))
+    (ap (λ (m : SolidMesh). length m.faces) mesh ∙ (h.paired ∙ ap (λ (k : List ℕ). length k) (sym face_lines)))
     (λ total. made_alike total s.mesh r.mesh s.face_lines r.face_lines s.fault (Some (unwrap_or r.fault (LineTooLong s.lines))) mesh face_lines fault
     ∙ long_line (pending total r.mesh.faces r.face_lines) r.fault r.mesh total s.lines l long)
 
@@ -142,7 +146,9 @@ pub later_read : (r s : AssetReader) (lines : List Line) (l : Line) (f : AssetFa
     → s.fault ≡ r.fault → r.fault ≡ Some f → StandsFor s (lines ++ l ∷ [])
 unfolding made_by
 later_read r s lines l f long h number vertices mesh face_lines fault is =
-    next_line r s lines l h number (vertices ∙ sym (ap (λ (b : Bool). next_count b r.vertex_lines) (by_word l long))) (ap (λ (m : SolidMesh). length m.faces) mesh ∙ (h.paired ∙ ap (λ (k : List ℕ). length k) (sym face_lines)))
+    next_line r s lines l h number
+    (vertices ∙ sym (ap (λ (b : Bool). next_count b r.vertex_lines) (by_word l long)))
+    (ap (λ (m : SolidMesh). length m.faces) mesh ∙ (h.paired ∙ ap (λ (k : List ℕ). length k) (sym face_lines)))
     (λ total. made_alike total s.mesh r.mesh s.face_lines r.face_lines s.fault r.fault mesh face_lines fault
     ∙ later_line (pending total r.mesh.faces r.face_lines) r.fault r.mesh total s.lines l f is)
 

@@ -83,7 +83,8 @@ impl AssetReader {
     // Adds what the last line says, where none before it is faulty.
     fn add(&mut self, said: AssetLine) -> Result<(), NoMemory>
         requires { self.old.fault ≡ None }
-        ensures gives { length self.old.mesh.faces ≡ length self.old.face_lines → OnOk result ((total : ℕ) → outcome self.new total ≡ and_then (outcome self.old total) (λ a. added total self.old.lines a said)) }
+        ensures gives { length self.old.mesh.faces ≡ length self.old.face_lines
+            → OnOk result ((total : ℕ) → outcome self.new total ≡ and_then (outcome self.old total) (λ a. added total self.old.lines a said)) }
         ensures paired { length self.old.mesh.faces ≡ length self.old.face_lines → OnOk result (length self.new.mesh.faces ≡ length self.new.face_lines) }
         ensures lines { self.new.lines ≡ self.old.lines }
         ensures vertices { self.new.vertex_lines ≡ self.old.vertex_lines }

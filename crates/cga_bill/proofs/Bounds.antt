@@ -85,7 +85,8 @@ pub can_add : (lines : List (List ℕ × Sums)) (d : Drawn) (list : List Drawn) 
     → length list + 1 ≤ 2 ^ 32 → HasRoom (sums_at lines d.symbol) (sums_of (d ∷ []))
 can_add lines d list h few =
     let own : List Drawn = of_symbol d.symbol list in
-    let n : length own ≤ length list = subst (λ (k : ℕ). k ≤ length list) (sym (length-filter (λ (x : Drawn). bytes_eq d.symbol x.symbol) list)) (count_by-le-length (λ (x : Drawn). bytes_eq d.symbol x.symbol) list) in
+    let n : length own ≤ length list = subst (λ (k : ℕ). k ≤ length list)
+    (sym (length-filter (λ (x : Drawn). bytes_eq d.symbol x.symbol) list)) (count_by-le-length (λ (x : Drawn). bytes_eq d.symbol x.symbol) list) in
     let front = sum_small front_of front_small own in
     let volume = sum_small volume_of volume_small own in
     let one_front = sum_small front_of front_small (d ∷ []) in

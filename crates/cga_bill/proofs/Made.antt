@@ -28,7 +28,8 @@ Lines = List (List ℕ × Sums)
 differs : (k q e : List ℕ) → q ≡ e → by_bytes k e ≡ Greater → bytes_eq q k ≡ false
 differs k q e s h =
     let no : bytes_eq k e ≡ false = sym (is_eq-slice_cmp k e) ∙ ap is_eq h in
-    not_true (bytes_eq q k) (λ t. let same : k ≡ e = sym ((bytes_eq-Decides q k).0 t) ∙ s in let yes : bytes_eq k e ≡ true = (bytes_eq-Decides k e).1 same in let both : true ≡ false = sym yes ∙ no in cc)
+    not_true (bytes_eq q k) (λ t. let same : k ≡ e = sym ((bytes_eq-Decides q k).0 t) ∙ s in
+    let yes : bytes_eq k e ≡ true = (bytes_eq-Decides k e).1 same in let both : true ≡ false = sym yes ∙ no in cc)
 
 -- ---- an entry is put in its place
 
@@ -80,7 +81,8 @@ module _ (k : List ℕ) (v : Sums) where
             ] refl)
         | Greater ↦ λ h.
             ap (λ (o : Option Sums). cond (is_at (by_bytes q) e.0) (Some e.1) o) (put_found es q)
-            ∙ elim (bytes_eq q e.0) as (λ (b : Bool). bytes_eq q e.0 ≡ b → cond (is_at (by_bytes q) e.0) (Some e.1) (cond (bytes_eq q k) (Some v) (look es)) ≡ cond (bytes_eq q k) (Some v) (cond (is_at (by_bytes q) e.0) (Some e.1) (look es))) [
+            ∙ elim (bytes_eq q e.0) as (λ (b : Bool). bytes_eq q e.0 ≡ b → cond (is_at (by_bytes q) e.0) (Some e.1)
+            (cond (bytes_eq q k) (Some v) (look es)) ≡ cond (bytes_eq q k) (Some v) (cond (is_at (by_bytes q) e.0) (Some e.1) (look es))) [
               | true ↦ λ b.
                   let s : q ≡ e.0 = (bytes_eq-Decides q e.0).0 b in
                   rw (is_eq-slice_cmp q e.0 ∙ b, differs k q e.0 s h) refl
@@ -107,7 +109,9 @@ module _ (list : List Drawn) where
   any_more s [] d = refl
   any_more s (x ∷ xs) d =
       ap (λ (b : Bool). bytes_eq s x.symbol || b) (any_more s xs d)
-      ∙ elim (bytes_eq s x.symbol) as (λ (b : Bool). (b || (bytes_eq s d.symbol || list_any (λ (x : Drawn). bytes_eq s x.symbol) xs)) ≡ (bytes_eq s d.symbol || (b || list_any (λ (x : Drawn). bytes_eq s x.symbol) xs))) [
+      ∙ elim (bytes_eq s x.symbol) as (λ (b : Bool).
+      (b || (bytes_eq s d.symbol || list_any (λ (x : Drawn). bytes_eq s x.symbol) xs)) ≡ (bytes_eq s d.symbol
+      || (b || list_any (λ (x : Drawn). bytes_eq s x.symbol) xs))) [
         | true ↦ elim (bytes_eq s d.symbol) as (λ (b : Bool). true ≡ (b || true)) [ true ↦ refl | false ↦ refl ]
         | false ↦ refl
       ]
@@ -134,7 +138,8 @@ module _ (list : List Drawn) where
   all_lines : (rest done : List Drawn) (lines : Lines) → HasLines lines done list
       → HasLines (fold with_line lines rest) (done ++ rest) list
   all_lines [] done lines h = subst (λ (l : List Drawn). HasLines lines l list) (sym (append-nil done)) h
-  all_lines (d ∷ ds) done lines h = subst (λ (l : List Drawn). HasLines (fold with_line (with_line lines d) ds) l list) (append_assoc done (d ∷ []) ds) (all_lines ds (done ++ d ∷ []) (with_line lines d) (one_line lines done d h))
+  all_lines (d ∷ ds) done lines h = subst (λ (l : List Drawn). HasLines (fold with_line (with_line lines d) ds) l
+      list) (append_assoc done (d ∷ []) ds) (all_lines ds (done ++ d ∷ []) (with_line lines d) (one_line lines done d h))
 
   no_lines : HasLines [] [] list
   unfolding IsStrictlySortedBy

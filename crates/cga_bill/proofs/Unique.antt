@@ -39,7 +39,8 @@ unfolding IsStrictlySortedBy
 past_head x [] s = refl
 past_head x (y ∷ ys) s = below_head x.0 y ys s.1 (s.0.0)
 
-module _ (x y : Line) (xs ys : List Line) (s : IsStrictlySortedBy by_bytes (keys_of (x ∷ xs))) (t : IsStrictlySortedBy by_bytes (keys_of (y ∷ ys))) (h : (q : List ℕ) → find (x ∷ xs) q ≡ find (y ∷ ys) q) where
+module _ (x y : Line) (xs ys : List Line) (s : IsStrictlySortedBy by_bytes (keys_of (x ∷ xs)))
+    (t : IsStrictlySortedBy by_bytes (keys_of (y ∷ ys))) (h : (q : List ℕ) → find (x ∷ xs) q ≡ find (y ∷ ys) q) where
   heads : x.0 ≡ y.0
   heads =
       elim (by_bytes x.0 y.0) as (λ (o : Ordering). by_bytes x.0 y.0 ≡ o → x.0 ≡ y.0) [

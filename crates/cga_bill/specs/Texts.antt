@@ -6,7 +6,8 @@ use Rattle.cga_bill.specs.declared.sums.Sums.{Sums}
 -- a symbol, how many instances it has, both sums in units with six places, and how many aren't measured
 unfoldable pub line_text : List ℕ × Sums → List ℕ
 line_text line =
-    codes "# bill " ++ line.0 ++ codes " " ++ decimal line.1.number ++ codes " " ++ pointed 6 line.1.front ++ codes " " ++ pointed 6 line.1.volume ++ codes " " ++ decimal line.1.unmeasured ++ codes "\n"
+    codes "# bill " ++ line.0 ++ codes " " ++ decimal line.1.number ++ codes " " ++ pointed 6 line.1.front
+    ++ codes " " ++ pointed 6 line.1.volume ++ codes " " ++ decimal line.1.unmeasured ++ codes "\n"
 
 -- how many symbols there are, then each
 unfoldable pub bill_text_of : List (List ℕ × Sums) → List ℕ

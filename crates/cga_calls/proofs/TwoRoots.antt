@@ -79,11 +79,13 @@ keeps_laws = record {
   one_parent = λ a b c ha hb ma mb. sym (parent_is a c ha ma) ∙ parent_is b c hb mb;
   at_root = two_of (λ r. depth_at r ≡ 0) 0 1 refl refl;
   at_child = below_is (λ n c. depth_at c ≡ depth_at n + 1) refl refl refl refl;
-  closed = below_is (λ n c. InTree two_roots c) (inside 2 (inr (inl refl))) (inside 3 (inr (inr (inl refl)))) (inside 4 (inr (inr (inr (inr (inl refl)))))) (inside 5 (inr (inr (inr (inr (inr (inl refl)))))));
+  closed = below_is (λ n c. InTree two_roots c) (inside 2 (inr (inl refl))) (inside 3 (inr (inr (inl refl))))
+      (inside 4 (inr (inr (inr (inr (inl refl)))))) (inside 5 (inr (inr (inr (inr (inr (inl refl)))))));
   shallow = each (λ n. depth_at n ≤ 256) (omega arith) (omega arith) (omega arith) (omega arith) (omega arith) (omega arith);
   boxed = each (λ n. is_box (box_at n) ≡ true) refl refl refl refl refl refl;
   holds_own = each (λ n. holds (box_at n) (box_at n) ≡ true) refl refl refl refl refl refl;
   holds_children = below_is (λ n c. holds (box_at n) (box_at c) ≡ true) refl refl refl refl;
   asks_own = λ n h e. each (λ n. LiesIn (Some (box_at n)) (box_at n)) (lies 0 0 refl) (lies 1 1 refl) (lies 2 2 refl) (lies 3 3 refl) (lies 4 4 refl) (lies 5 5 refl) n h;
-  asks_below = λ n c b h m e. subst (LiesIn (Some (box_at n))) (same_box (box_at c) b e) (below_is (λ n c. LiesIn (Some (box_at n)) (box_at c)) (lies 0 2 refl) (lies 0 3 refl) (lies 1 4 refl) (lies 1 5 refl) n c h m);
+  asks_below = λ n c b h m e. subst (LiesIn (Some (box_at n))) (same_box (box_at c) b e)
+      (below_is (λ n c. LiesIn (Some (box_at n)) (box_at c)) (lies 0 2 refl) (lies 0 3 refl) (lies 1 4 refl) (lies 1 5 refl) n c h m);
 }

@@ -73,7 +73,8 @@ module _ (g : Grammar) (symbol : List ℕ) where
       let arity : differs_in_arity before x ≡ false = if_none _ _ (none_right _ _ later) in
       record {
         priority = equal f.priority x.priority _ same (at_found (is_of symbol) (λ (y : Entry). is_of x.rule.symbol y && not (nat_eq y.priority x.priority)) before f found split);
-        arity = equal (length f.rule.params) (length x.rule.params) _ same (at_found (is_of symbol) (λ (y : Entry). is_of x.rule.symbol y && not (nat_eq (length y.rule.params) (length x.rule.params))) before f found arity);
+        arity = equal (length f.rule.params) (length x.rule.params) _ same
+            (at_found (is_of symbol) (λ (y : Entry). is_of x.rule.symbol y && not (nat_eq (length y.rule.params) (length x.rule.params))) before f found arity);
       }
 
   agree_after : (f : Entry) (before xs : List Entry) → find (is_of symbol) before ≡ Some f

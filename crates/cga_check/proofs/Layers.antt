@@ -69,11 +69,13 @@ primary_Number n = ap primary_uses (sym (p.rolls-Number n)) ∙ fold-roll-Primar
 -- a name in an expression uses that name alone
 pub primary_Named : (name : List ℕ) → primary_uses (p.Named name) ≡ only (Named name)
 unfolding primary_uses
-primary_Named name = ap primary_uses (sym (p.rolls-Named name)) ∙ fold-roll-Primary Uses Uses Uses Uses Uses Uses primary_step added_step expr_step factor_step scaled_step term_step (primary.Named name)
+primary_Named name = ap primary_uses (sym (p.rolls-Named name)) ∙ fold-roll-Primary Uses Uses Uses Uses Uses Uses
+    primary_step added_step expr_step factor_step scaled_step term_step (primary.Named name)
 
 pub primary_ScopeSize : (axis : Axis) → primary_uses (p.ScopeSize axis) ≡ []
 unfolding primary_uses
-primary_ScopeSize axis = ap primary_uses (sym (p.rolls-ScopeSize axis)) ∙ fold-roll-Primary Uses Uses Uses Uses Uses Uses primary_step added_step expr_step factor_step scaled_step term_step (primary.ScopeSize axis)
+primary_ScopeSize axis = ap primary_uses (sym (p.rolls-ScopeSize axis)) ∙ fold-roll-Primary Uses Uses Uses Uses
+    Uses Uses primary_step added_step expr_step factor_step scaled_step term_step (primary.ScopeSize axis)
 
 pub primary_Group : (e : Expr) → primary_uses (p.Group e) ≡ expr_uses e
 unfolding primary_uses expr_uses
@@ -90,7 +92,8 @@ primary_Ceil e = ap primary_uses (sym (p.rolls-Ceil e)) ∙ fold-roll-Primary Us
 pub primary_Rand : (j : ℕ) (low high : Expr) (steps : ℕ)
     → primary_uses (p.Rand j low high steps) ≡ expr_uses low ++ expr_uses high
 unfolding primary_uses expr_uses
-primary_Rand j low high steps = ap primary_uses (sym (p.rolls-Rand j low high steps)) ∙ fold-roll-Primary Uses Uses Uses Uses Uses Uses primary_step added_step expr_step factor_step scaled_step term_step (primary.Rand j low high steps)
+primary_Rand j low high steps = ap primary_uses (sym (p.rolls-Rand j low high steps))
+    ∙ fold-roll-Primary Uses Uses Uses Uses Uses Uses primary_step added_step expr_step factor_step scaled_step term_step (primary.Rand j low high steps)
 
 -- ---- conditions
 
@@ -175,7 +178,22 @@ pub item_Child : (symbol : List ℕ) (args : List Expr)
 unfolding item_uses
 item_Child symbol args = ap item_uses (sym (i.rolls-Child symbol args)) ∙ fold-roll-Item Uses Uses item_step body_step (item.Child symbol args)
 
-pub ruleset exprs = (expr_out, term_out, added_out, scaled_out, factor_out, primary_Number, primary_Named, primary_ScopeSize, primary_Group, primary_Floor, primary_Ceil, primary_Rand, sifted_append, sifted_none)
+pub ruleset exprs = (
+  expr_out,
+  term_out,
+  added_out,
+  scaled_out,
+  factor_out,
+  primary_Number,
+  primary_Named,
+  primary_ScopeSize,
+  primary_Group,
+  primary_Floor,
+  primary_Ceil,
+  primary_Rand,
+  sifted_append,
+  sifted_none,
+)
 
 pub ruleset conds = (cond_out, conj_out, test_Group, test_Not, test_Occ, test_Compare, sifted_append, sifted_none)
 

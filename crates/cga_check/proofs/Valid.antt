@@ -46,7 +46,8 @@ pub takes : (g : Grammar) → IsValid g → (symbol : List ℕ) (f : Entry) → 
     → Takes g symbol (length f.rule.params)
 takes g valid symbol f found =
     take_all symbol (length f.rule.params) g.rules
-    (All-weaker (λ (e : Entry). is_of symbol e ≡ true → Agrees f e) (λ (e : Entry). is_of symbol e ≡ true → length e.rule.params ≡ length f.rule.params) (λ e agrees here. (agrees here).arity) g.rules (symbols_agree g valid symbol f found))
+    (All-weaker (λ (e : Entry). is_of symbol e ≡ true → Agrees f e) (λ (e : Entry). is_of symbol e ≡ true
+    → length e.rule.params ≡ length f.rule.params) (λ e agrees here. (agrees here).arity) g.rules (symbols_agree g valid symbol f found))
 
 same_number : (a b : ℕ) → not (nat_eq a b) ≡ false → a ≡ b
 same_number a b h = grind (arith, nat_tests)

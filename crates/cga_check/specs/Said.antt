@@ -23,7 +23,12 @@ abbrev pub is_asking : List ℕ → Target → Entry → Bool
 is_asking symbol target e = is_of symbol e && asks target e.rule
 
 unfoldable pub said_among : List ℕ → List Entry → Option Said
-said_among symbol entries = option_map (λ (e : Entry). record { priority = e.priority; noparent = list_any (is_asking symbol Noparent) entries; active = list_any (is_asking symbol Active) entries }) (first_entry entries symbol)
+said_among symbol entries = option_map
+    (λ (e : Entry). record {
+      priority = e.priority;
+      noparent = list_any (is_asking symbol Noparent) entries;
+      active = list_any (is_asking symbol Active) entries;
+    }) (first_entry entries symbol)
 
 abbrev pub with_rule : Option Said → Entry → Said
 with_rule None e = record { priority = e.priority; noparent = asks Noparent e.rule; active = asks Active e.rule }

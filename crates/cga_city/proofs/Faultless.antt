@@ -76,7 +76,13 @@ apart_all : (e : Entry) (before : List Entry) → id_is_taken before e.rule.id �
 apart_all e [] a b c = tt
 apart_all e (x ∷ xs) a b c =
     let here : x.rule.symbol ≡ e.rule.symbol → is_of e.rule.symbol x ≡ true = (bytes_eq-Decides x.rule.symbol e.rule.symbol).1 in (
-      (differ x.rule.id e.rule.id (or_left _ _ a), λ s. (same x.priority e.priority (is_of e.rule.symbol x) (here s) (or_left _ _ b), same (length x.rule.params) (length e.rule.params) (is_of e.rule.symbol x) (here s) (or_left _ _ c))),
+      (
+        differ x.rule.id e.rule.id (or_left _ _ a),
+        λ s. (
+          same x.priority e.priority (is_of e.rule.symbol x) (here s) (or_left _ _ b),
+          same (length x.rule.params) (length e.rule.params) (is_of e.rule.symbol x) (here s) (or_left _ _ c),
+        ),
+      ),
       apart_all e xs (or_right _ _ a) (or_right _ _ b) (or_right _ _ c),
     )
 
@@ -111,8 +117,10 @@ fine_rule g before e h =
     let symbols = none_left (symbol_faults before e) (own_faults g e) head in (
       apart_all e before
           (if_none _ _ (none_left (fault_if (id_is_taken before e.rule.id) (DoubleId e.rule.id)) _ symbols))
-          (if_none _ _ (none_left (fault_if (splits_priority before e) (SplitPriority e.rule.id e.rule.symbol)) _ (none_right (fault_if (id_is_taken before e.rule.id) (DoubleId e.rule.id)) _ symbols)))
-          (if_none _ _ (none_right (fault_if (splits_priority before e) (SplitPriority e.rule.id e.rule.symbol)) _ (none_right (fault_if (id_is_taken before e.rule.id) (DoubleId e.rule.id)) _ symbols))),
+          (if_none _ _ (none_left (fault_if (splits_priority before e) (SplitPriority e.rule.id e.rule.symbol)) _
+          (none_right (fault_if (id_is_taken before e.rule.id) (DoubleId e.rule.id)) _ symbols)))
+          (if_none _ _ (none_right (fault_if (splits_priority before e) (SplitPriority e.rule.id e.rule.symbol)) _
+          (none_right (fault_if (id_is_taken before e.rule.id) (DoubleId e.rule.id)) _ symbols))),
       record { own = none_right (symbol_faults before e) (own_faults g e) head; used = none_right (head_faults g before e) (used_faults g e) h },
     )
 

@@ -39,7 +39,8 @@ module _ (v : ForestView) where
   below_under zero id c m = absurd m
   below_under (suc n) id c m = elim m [
     | inl e ↦ ap (under (children_at v) (suc n) id) (sym e) ∙ under_self (children_at v) (suc n) id (omega arith)
-    | inr r ↦ (let p = in_some (below (forest_tree v) n) (children_at v id) c r in let w = at_member (children_at v id) p.0 p.1 in under_child (children_at v) n id w.0 p.0 c w.1 (below_under n p.0 c p.2))
+    | inr r ↦ (let p = in_some (below (forest_tree v) n) (children_at v id) c r in
+        let w = at_member (children_at v id) p.0 p.1 in under_child (children_at v) n id w.0 p.0 c w.1 (below_under n p.0 c p.2))
   ]
 
   under_below : (n id c : ℕ) → under (children_at v) n id c ≡ true → trees.Member (below (forest_tree v) n id) c

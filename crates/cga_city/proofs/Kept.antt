@@ -89,7 +89,8 @@ pub done_gives : (s new : Sources) (e : Edit) (budget n x y k : ℕ) (warm : Boo
 done_gives s new e budget n x y k warm before old changes is =
     let after = is_derived budget new (Some is.exact.1) is.exact.3 in
     let was : is.exact.0 ≡ members budget s =
-    one (derivation_of s) (sources_are_derivations s (names_differ s.lots is.sound.names)) is.exact.0 before is.exact.2 (derived_is s is.sound budget before is.fits) ∙ sym (members_are budget s before is.fits) in
+    one (derivation_of s) (sources_are_derivations s (names_differ s.lots is.sound.names)) is.exact.0 before
+    is.exact.2 (derived_is s is.sound budget before is.fits) ∙ sym (members_are budget s before is.fits) in
     let now = sym (members_are budget new is.exact.1 after) in
     record {
       applied = apply_ok s new e budget is.exact.1 is.made after;

@@ -135,7 +135,15 @@ module _ (v : ForestView) (f : IsForest v) where
   kids_all n ih d i (c ∷ cs) h =
       let w = h 0 c refl in
       subst (AllByRecursion (From d.node.shape i)) (sym (more_kids n c cs)) (all_both (From d.node.shape i) (nodes_from n c) (nodes_of n cs)
-      (all_weaker (Below w.0.node.shape) (From d.node.shape i) (λ m b. (i + 0, b.0, omega arith, b.1 ∙ ap (λ p. p ++ b.0) w.2 ∙ append_assoc d.node.shape.path ((i + 0) ∷ []) b.0, b.2 ∙ w.3)) (nodes_from n c) (ih c w.0 w.1))
+      (all_weaker (Below w.0.node.shape) (From d.node.shape i)
+      (λ m b. (
+        i + 0,
+        b.0,
+        omega arith,
+        b.1 ∙ ap (λ p. p ++ b.0) w.2 ∙ append_assoc d.node.shape.path
+            ((i + 0) ∷ []) b.0,
+        b.2 ∙ w.3,
+      )) (nodes_from n c) (ih c w.0 w.1))
       (all_weaker (From d.node.shape (i + 1)) (From d.node.shape i) (λ m b. let l = b.2 in (b.0, b.1, omega arith, b.3, b.4)) (nodes_of n cs) (kids_all n ih d (i + 1) cs (tail_from d i c cs h))))
 
   pub nodes_below : (n r : ℕ) (d : Seen) → node_at v r ≡ Some d → AllByRecursion (Below d.node.shape) (nodes_from n r)
@@ -155,12 +163,16 @@ module _ (v : ForestView) (f : IsForest v) where
       let r = all_at (From d.node.shape (i + 1)) (nodes_of n cs) y (kids_all n (λ c e k. nodes_below n c e k) d (i + 1) cs (tail_from d i c cs h)) b in
       let p : x.shape.path ≡ d.node.shape.path ++ (i + 0) ∷ l.0 = l.1 ∙ ap (λ p. p ++ l.0) w.2 ∙ append_assoc d.node.shape.path ((i + 0) ∷ []) l.0 in
       let lt = r.2 in
-      ap (λ q. is_lt (slice_cmp nat_cmp q y.shape.path)) p ∙ ap (λ q. is_lt (slice_cmp nat_cmp (d.node.shape.path ++ (i + 0) ∷ l.0) q)) r.3 ∙ ap is_lt (path_beside d.node.shape.path (i + 0) r.0 l.0 r.1 (omega arith))))
+      ap (λ q. is_lt (slice_cmp nat_cmp q y.shape.path)) p
+      ∙ ap (λ q. is_lt (slice_cmp nat_cmp (d.node.shape.path ++ (i + 0) ∷ l.0) q)) r.3
+      ∙ ap is_lt (path_beside d.node.shape.path (i + 0) r.0 l.0 r.1 (omega arith))))
 
   pub nodes_rise : (n r : ℕ) (d : Seen) → node_at v r ≡ Some d → Rises comes_before (nodes_from n r)
   nodes_rise zero r d h = subst (Rises comes_before) (sym (no_nodes r)) tt
   nodes_rise (suc n) r d h = subst (Rises comes_before) (sym (more_nodes n r d h)) (
-    all_weaker (From d.node.shape 0) (λ m. comes_before (member_of d.node) m ≡ true) (λ m b. ap (λ q. is_lt (slice_cmp nat_cmp d.node.shape.path q)) b.3 ∙ ap is_lt (path_below d.node.shape.path b.0 b.1)) (nodes_of n d.children) (kids_all n (λ c e k. nodes_below n c e k) d 0 d.children (kids_from r d h)),
+    all_weaker (From d.node.shape 0) (λ m. comes_before (member_of d.node) m ≡ true)
+        (λ m b. ap (λ q. is_lt (slice_cmp nat_cmp d.node.shape.path q)) b.3
+        ∙ ap is_lt (path_below d.node.shape.path b.0 b.1)) (nodes_of n d.children) (kids_all n (λ c e k. nodes_below n c e k) d 0 d.children (kids_from r d h)),
     kids_rise n (λ c e k. nodes_rise n c e k) d 0 d.children (kids_from r d h),
   )
 

@@ -96,12 +96,14 @@ module _ (e : Entry) (rules : List Entry) (apart : AllByRecursion (Apart e) rule
   at = new_place e.rule.id rules
 
   one_all : (P : Entry → Type 0) → P e → AllByRecursion P rules → AllByRecursion P (with_rule e rules)
-  one_all P h k = rw (new_rule e rules (are_new e rules apart)) (put_in P (take (new_place e.rule.id rules) rules) (drop (new_place e.rule.id rules) rules) e h (rw (take-append-drop (new_place e.rule.id rules) rules) k))
+  one_all P h k = rw (new_rule e rules (are_new e rules apart)) (put_in P (take (new_place e.rule.id rules) rules)
+      (drop (new_place e.rule.id rules) rules) e h (rw (take-append-drop (new_place e.rule.id rules) rules) k))
 
   one_differ : Differ rules → Differ (with_rule e rules)
   one_differ d =
       rw (new_rule e rules (are_new e rules apart))
-      (put_differ (take (new_place e.rule.id rules) rules) (drop (new_place e.rule.id rules) rules) e (rw (take-append-drop (new_place e.rule.id rules) rules) apart) (rw (take-append-drop (new_place e.rule.id rules) rules) d))
+      (put_differ (take (new_place e.rule.id rules) rules) (drop (new_place e.rule.id rules) rules) e
+      (rw (take-append-drop (new_place e.rule.id rules) rules) apart) (rw (take-append-drop (new_place e.rule.id rules) rules) d))
 
   one_any : (p : Entry → Bool) → list_any p (with_rule e rules) ≡ (p e || list_any p rules)
   one_any p =

@@ -185,7 +185,8 @@ reordered_ranked attributes rules new perm rising d =
     let k = among [] new tt d (all_none new) in
     let only = k.each (λ (z : Entry). Among z new) tt (all_from (λ (z : Entry). Among z new) new (λ z i. i)) in
     let all : (z : Entry) → Among z new → Among z (with_rules [] new) = λ z i. (
-    let found = any_at (λ (e : Entry). nat_eq e.rule.id z.rule.id) (with_rules [] new) (k.any (λ (e : Entry). nat_eq e.rule.id z.rule.id) (any_of (λ (e : Entry). nat_eq e.rule.id z.rule.id) new z i (own_id z.rule.id))) in
+    let found = any_at (λ (e : Entry). nat_eq e.rule.id z.rule.id) (with_rules [] new)
+    (k.any (λ (e : Entry). nat_eq e.rule.id z.rule.id) (any_of (λ (e : Entry). nat_eq e.rule.id z.rule.id) new z i (own_id z.rule.id))) in
     let there = all_at (λ (w : Entry). Among w new) (with_rules [] new) found.0 only found.1 in
     subst (λ (w : Entry). Among w (with_rules [] new)) (one_of new d found.0 z there i (is_id found.0.rule.id z.rule.id found.2)) found.1) in
     ap (of attributes)
@@ -199,7 +200,13 @@ reordered_changed : (old s : Sources) (new : List Entry) → AreSound s → IsPe
     → changed old (edit.Whole (with_entries s new)) ≡ Ok s
 reordered_changed old s new sound perm =
     let d = differ s.grammar.rules new perm (faultless s.grammar sound.grammar).rules.0 in
-    rw (reordered_valid s.grammar new perm sound.grammar, reordered_ranked s.grammar.attributes s.grammar.rules new perm sound.rising d, fits (length s.lots) sound.few, good_accepted s.grammar s.lots sound.plain sound.good) refl
+    rw (
+      reordered_valid s.grammar new perm sound.grammar,
+      reordered_ranked s.grammar.attributes s.grammar.rules new
+          perm sound.rising d,
+      fits (length s.lots) sound.few,
+      good_accepted s.grammar s.lots sound.plain sound.good,
+    ) refl
 
 pub whole_sets_them : WholeSetsThem
 unfolding apply

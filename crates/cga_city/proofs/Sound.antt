@@ -126,10 +126,12 @@ lot_sound s new lot sound h =
 
 -- an edit that isn't refused keeps what lots are
 pub changed_sound : (s new : Sources) (e : Edit) → AreSound s → HasDistinctLots e → changed s e ≡ Ok new → AreSound new
-changed_sound s new (edit.Rules g) sound apart h = let (u, valid, made) = and_then_ok (checked g) _ new h in grammar_sound s new (ranked g) sound (ranked_valid g (checked_valid g u valid)) (ranked_rises g) made
+changed_sound s new (edit.Rules g) sound apart h = let (u, valid, made) = and_then_ok (checked g) _ new h in
+    grammar_sound s new (ranked g) sound (ranked_valid g (checked_valid g u valid)) (ranked_rises g) made
 changed_sound s new (edit.Put priority rule) sound apart h =
     checked_sound s new _ sound (with_rule_rises (record { priority = priority; rule = rule }) s.grammar.rules sound.rising) h
-changed_sound s new (edit.Drop id) sound apart h = let (i, at, made) = map_or_ok _ (rule_place id s.grammar.rules) (NoRule id) new h in checked_sound s new _ sound (remove_rises s.grammar.rules i sound.rising) made
+changed_sound s new (edit.Drop id) sound apart h = let (i, at, made) = map_or_ok _ (rule_place id s.grammar.rules)
+    (NoRule id) new h in checked_sound s new _ sound (remove_rises s.grammar.rules i sound.rising) made
 changed_sound s new (edit.SetAttribute name value) sound apart h =
     let (i, at, made) = map_or_ok _ (attribute_place name s.grammar.attributes) (NoAttribute name) new h in
     let e : valued s name value i ≡ new = cc in
@@ -143,7 +145,12 @@ changed_sound s new (edit.SetPriority symbol priority) sound apart h =
       few = sound.few;
       names = sound.names;
       good = sound.good;
-      plain = All-weaker (IsPlain s.grammar) (IsPlain (record { attributes = s.grammar.attributes; rules = prioritized symbol priority s.grammar.rules })) (λ (lot : Lot) p. plain_priority s.grammar symbol priority lot.symbol ∙ p) s.lots sound.plain;
+      plain = All-weaker (IsPlain s.grammar)
+          (IsPlain (record {
+            attributes = s.grammar.attributes;
+            rules = prioritized symbol priority
+                s.grammar.rules;
+          })) (λ (lot : Lot) p. plain_priority s.grammar symbol priority lot.symbol ∙ p) s.lots sound.plain;
     })
 changed_sound s new (edit.SetLot lot) sound apart h = lot_sound s new lot sound h
 changed_sound s new (edit.Unlot name) sound apart h =

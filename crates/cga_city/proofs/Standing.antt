@@ -71,8 +71,14 @@ own_drawn lot list =
 pub stands : (lots : List (List ℕ)) (list : List Member) → StandsBy lots (drawn_in lots list)
 unfolding drawn_in
 stands [] list = refl
-stands (lot ∷ lots) list =
-    (flat_map drawn_of (members_of lot list), drawn_in lots list, refl, All-from_recursion (λ (d : Drawn). d.lot ≡ lot) (flat_map drawn_of (members_of lot list)) (own_drawn lot list), stands lots list)
+stands (lot ∷ lots) list = (
+  flat_map drawn_of (members_of lot list),
+  drawn_in lots list,
+  refl,
+  All-from_recursion
+      (λ (d : Drawn). d.lot ≡ lot) (flat_map drawn_of (members_of lot list)) (own_drawn lot list),
+  stands lots list,
+)
 
 told_stands : (c : Result (List (List ℕ)) NoLot) (list : List Member)
     → IfOk (drawn_by c list) (λ drawn. IfOk c (λ names. StandsBy names drawn))

@@ -49,6 +49,7 @@ pub sound_valid : (s : Sources) → AreSound s → IsValid s
 sound_valid s sound = record {
   grammar = sound.grammar;
   names = names_differ s.lots sound.names;
-  symbols = All-weaker (λ (lot : Lot). is_plain s.grammar lot.symbol ≡ true) (λ (lot : Lot). IsMet s.grammar (Child lot.symbol 0)) (λ lot p. symbol_met s.grammar sound.grammar lot.symbol p) s.lots sound.plain;
+  symbols = All-weaker (λ (lot : Lot). is_plain s.grammar lot.symbol ≡ true)
+      (λ (lot : Lot). IsMet s.grammar (Child lot.symbol 0)) (λ lot p. symbol_met s.grammar sound.grammar lot.symbol p) s.lots sound.plain;
   roots = All-weaker (λ (lot : Lot). is_bad lot ≡ false) (λ (lot : Lot). IsOk (root_scope lot)) good_root s.lots sound.good;
 }

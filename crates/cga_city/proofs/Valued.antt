@@ -116,7 +116,9 @@ module _ (old new : List Attribute) (same : names old ≡ names new) where
 
     fine_valued : (e : Entry) → IsFine (of old rules) e → IsFine (of new rules) e
     fine_valued e fine = record {
-      own = nils _ _ (params_kept e.rule.id [] e.rule.params (none_left (each_after (param_faults (of old rules) e.rule.id) [] e.rule.params) _ fine.own)) (none_right (each_after (param_faults (of old rules) e.rule.id) [] e.rule.params) _ fine.own);
+      own = nils _ _ (params_kept e.rule.id [] e.rule.params
+          (none_left (each_after (param_faults (of old rules) e.rule.id) [] e.rule.params) _ fine.own))
+          (none_right (each_after (param_faults (of old rules) e.rule.id) [] e.rule.params) _ fine.own);
       used = uses_valued e.rule (rule_uses e.rule) fine.used;
     }
 

@@ -54,7 +54,11 @@ impl Model for City {
 
     ghost Value = { CityState };
 
-    ghost coded = { code_by (Sources × (ℕ × (Bool × (ℕ × Changes)))) (coded× of_sources.the_row.coded (coded× coded_ℕ (coded× coded_bool (coded× coded_ℕ of_changes.the_row.coded)))) (λ c. (c.sources, (c.budget, (c.warm, (c.expanded, c.changes))))) (λ p. record { sources = p.0; budget = p.1.0; warm = p.1.1.0; expanded = p.1.1.1.0; changes = p.1.1.1.1 }) (λ _. refl) };
+    ghost coded = { code_by (Sources × (ℕ × (Bool × (ℕ × Changes))))
+        (coded× of_sources.the_row.coded
+        (coded× coded_ℕ (coded× coded_bool (coded× coded_ℕ of_changes.the_row.coded))))
+        (λ c. (c.sources, (c.budget, (c.warm, (c.expanded, c.changes)))))
+        (λ p. record { sources = p.0; budget = p.1.0; warm = p.1.1.0; expanded = p.1.1.1.0; changes = p.1.1.1.1 }) (λ _. refl) };
 
     ghost use Rattle.cga_city.specs.Kept.{IsCity};
 

@@ -65,7 +65,8 @@ module _ (old new : DependentsView) (symbol : List ℕ) (node : ℕ) where
           → (b : Bool) → nat_eq node c ≡ b → lists new symbol c ≡ (if b then false else lists old symbol c)
       here true found gone same true at =
           ap (λ n. lists new symbol n) (sym (same_number node c at))
-          ∙ none_of node (nodes_in new symbol) (IsDistinct-head nat_eq node (nodes_in new symbol) (IsDistinct-IsPermutation nat_eq flip_number (nodes_in old symbol) (node ∷ nodes_in new symbol) (gone refl) once))
+          ∙ none_of node (nodes_in new symbol) (IsDistinct-head nat_eq node (nodes_in new symbol)
+          (IsDistinct-IsPermutation nat_eq flip_number (nodes_in old symbol) (node ∷ nodes_in new symbol) (gone refl) once))
       here true found gone same false at =
           sym (list_any-IsPermutation (nat_eq c) (nodes_in old symbol) (node ∷ nodes_in new symbol) (gone refl)
           ∙ ap (λ b. b || lists new symbol c) (flip_number c node ∙ at))

@@ -185,7 +185,9 @@ module _ (symbol : List ℕ) (id : ℕ) where
       → r ≡ Some i → x ≡ get_or es i x
       → rules_with symbol id es ≡ (get_or es i x).rule ∷ rules_with symbol id (behind (i + 1) es)
   with_first es r i x is some at =
-      ap (map (λ (y : Entry). y.rule)) (filter_first (is_one symbol id) es i x (sym is ∙ some) at) ∙ (ap (λ (y : Entry). y.rule ∷ rules_with symbol id (drop (i + 1) es)) at ∙ ap (λ l. (get_or es i x).rule ∷ rules_with symbol id l) (sym (all_behind (i + 1) es)))
+      ap (map (λ (y : Entry). y.rule)) (filter_first (is_one symbol id) es i x (sym is ∙ some) at)
+      ∙ (ap (λ (y : Entry). y.rule ∷ rules_with symbol id (drop (i + 1) es)) at
+      ∙ ap (λ l. (get_or es i x).rule ∷ rules_with symbol id l) (sym (all_behind (i + 1) es)))
 
   not_mapped : (es : List Entry) → map (λ (x : Entry). x.rule) es ≡ [] → es ≡ []
   not_mapped [] e = refl

@@ -84,10 +84,12 @@ module _ {N F P : Type 0} where
   shapes-erase : (test : Kind F P → Bool) (xs : List (Placed (Site N) F P))
       → map (λ m. m.shape) (shapes_where (λ n k. test k) xs) ≡ shapes_where (λ n k. test k) (erase xs)
   shapes-erase test [] = refl
-  shapes-erase test (x ∷ xs) = elim (test x.kind) as (λ b. map (λ m. m.shape) (cond b (x.shape ∷ shapes_where (λ n k. test k) xs) (shapes_where (λ n k. test k) xs)) ≡ cond b (x.shape.shape ∷ shapes_where (λ n k. test k) (erase xs)) (shapes_where (λ n k. test k) (erase xs))) [
-    | true ↦ ap (λ l. x.shape.shape ∷ l) (shapes-erase test xs)
-    | false ↦ shapes-erase test xs
-  ]
+  shapes-erase test (x ∷ xs) = elim (test x.kind) as (λ b. map (λ m. m.shape)
+      (cond b (x.shape ∷ shapes_where (λ n k. test k) xs) (shapes_where (λ n k. test k) xs)) ≡ cond b
+      (x.shape.shape ∷ shapes_where (λ n k. test k) (erase xs)) (shapes_where (λ n k. test k) (erase xs))) [
+        | true ↦ ap (λ l. x.shape.shape ∷ l) (shapes-erase test xs)
+        | false ↦ shapes-erase test xs
+      ]
 
   pub erase-sited : (ps : List ℕ) (cs : List (Placed N F P)) → erase (map (sited ps) cs) ≡ cs
   erase-sited ps [] = refl
@@ -96,7 +98,8 @@ module _ {N F P : Type 0} where
 module _ {N A F P : Type 0} (derivation : Derivation N A F P) where
   erase-become : (s : Site N) (k : Kind F P) (m : Placed (Site N) F P)
       → erased (run.become (world_of derivation) s k m) ≡ become derivation s.shape k (erased m)
-  erase-become s k m = elim (same_place derivation m.shape.shape s.shape) as (λ b. erased (cond b (record { shape = m.shape; kind = k }) m) ≡ cond b (record { shape = m.shape.shape; kind = k }) (erased m)) [ true ↦ refl | false ↦ refl ]
+  erase-become s k m = elim (same_place derivation m.shape.shape s.shape) as (λ b. erased
+      (cond b (record { shape = m.shape; kind = k }) m) ≡ cond b (record { shape = m.shape.shape; kind = k }) (erased m)) [ true ↦ refl | false ↦ refl ]
 
   pub erase-becomes : (s : Site N) (k : Kind F P) (xs : List (Placed (Site N) F P))
       → erase (map (run.become (world_of derivation) s k) xs) ≡ map (become derivation s.shape k) (erase xs)
@@ -121,7 +124,9 @@ module _ {N A F P : Type 0} (derivation : Derivation N A F P) where
       → erase (run.told (world_of derivation) C s (run.outcome (world_of derivation) C s)) ≡ told derivation (erase C)
       s.shape (outcome derivation (erase C) s.shape)
   erase-step C s =
-      ap (λ a. erase (run.told (world_of derivation) C s (all_sited (chain_of derivation s).priorities (derivation.expand s.shape a)))) (asked-erase C s) ∙ erase-told C s (outcome derivation (erase C) s.shape)
+      ap (λ a. erase (run.told (world_of derivation) C s
+      (all_sited (chain_of derivation s).priorities (derivation.expand s.shape a)))) (asked-erase C s)
+      ∙ erase-told C s (outcome derivation (erase C) s.shape)
 
   step-along : (C : List (Placed (Site N) F P)) (o : Option (Placed (Site N) F P))
       → erase (step_sites_by derivation C o) ≡ step_by derivation (erase C) (option_of erased o)
@@ -145,7 +150,9 @@ module _ {N A F P : Type 0} (derivation : Derivation N A F P) where
   unfolding sites reached step
   erase-sites zero = start-along derivation.roots
   erase-sites (suc n) =
-      step-along (sites derivation n) (next_site derivation (sites derivation n)) ∙ (ap (step_by derivation (erase (sites derivation n))) (sym (next-along (sites derivation n))) ∙ ap (λ l. step_by derivation l (next_of derivation l)) (erase-sites n))
+      step-along (sites derivation n) (next_site derivation (sites derivation n))
+      ∙ (ap (step_by derivation (erase (sites derivation n))) (sym (next-along (sites derivation n)))
+      ∙ ap (λ l. step_by derivation l (next_of derivation l)) (erase-sites n))
 
   -- the next site waits, and no rank of one that waits is smaller
   pub IsStep-next : (C : List (Placed (Site N) F P)) (m : Placed (Site N) F P) → next_site derivation C ≡ Some m
@@ -156,7 +163,9 @@ module _ {N A F P : Type 0} (derivation : Derivation N A F P) where
       record {
         waits = waits C m.shape m.kind (first_of-Has (λ x. is_next derivation (erase C) (erased x)) C m e) passes.0;
         least = λ w h less.
-            let t = list_all-at (λ x. not (is_waiting x.kind && is_lt (rank_cmp derivation.mode (rank_of derivation x.shape) (rank_of derivation m.shape.shape)))) (erase C) w.shape Waiting passes.1 (Has-erase C w Waiting h) in
+            let t = list_all-at (λ x. not (is_waiting x.kind
+            && is_lt (rank_cmp derivation.mode (rank_of derivation x.shape)
+            (rank_of derivation m.shape.shape)))) (erase C) w.shape Waiting passes.1 (Has-erase C w Waiting h) in
             let lt : rank_cmp derivation.mode (rank_of derivation w.shape) (rank_of derivation m.shape.shape) ≡ Less =
             (λ i. rank_cmp derivation.mode (sym (rank-site derivation w) i) (sym (rank-site derivation m.shape) i)) ∙ less in
             let f : not (is_lt Less) ≡ true = ap (λ o. not (is_lt o)) (sym lt) ∙ t in

@@ -76,7 +76,8 @@ module _ {N A F P : Type 0} (derivation : Derivation N A F P) where
         → SitesApart derivation (step_sites_by derivation (sites derivation n) o)
     apart-by n None e apart = apart
     apart-by n (Some m) e apart =
-        apart-next (sites derivation n) _ m.shape (steps.in_order (world_of derivation) (world derivation laws) (taken derivation n) (sites derivation n) (reached-sites derivation n)) (IsStep-next derivation (sites derivation n) m e) apart
+        apart-next (sites derivation n) _ m.shape (steps.in_order (world_of derivation) (world derivation laws)
+        (taken derivation n) (sites derivation n) (reached-sites derivation n)) (IsStep-next derivation (sites derivation n) m e) apart
 
     pub apart-sites : (n : ℕ) → SitesApart derivation (sites derivation n)
     unfolding sites

@@ -55,7 +55,8 @@ module _ {N A F P : Type 0} (derivation : Derivation N A F P) where
   Least xs = ((w : N) → Has xs w Waiting → ⊥) ⊎ ((m : N) × Has xs m Waiting × ((w : N) → Has xs w Waiting → Below w m → ⊥))
 
   not_below : (m v : N) → m ≡ v → Below v m → ⊥
-  not_below m v e less = ranks.not_self (rank_cmp derivation.mode) (rank_total derivation.mode) (rank_of derivation m) (ap (λ x. rank_cmp derivation.mode (rank_of derivation x) (rank_of derivation m)) e ∙ less)
+  not_below m v e less = ranks.not_self (rank_cmp derivation.mode) (rank_total derivation.mode)
+      (rank_of derivation m) (ap (λ x. rank_cmp derivation.mode (rank_of derivation x) (rank_of derivation m)) e ∙ less)
 
   least_with : (x : Placed N F P) (xs : Members) → (x.kind ≡ Waiting) ⊎ (x.kind ≡ Waiting → ⊥) → Least xs
       → Least (x ∷ xs)
@@ -87,7 +88,9 @@ module _ {N A F P : Type 0} (derivation : Derivation N A F P) where
   exists-next : (list : Members) (w : N) → Has list w Waiting → (m : Placed N F P) × (next_of derivation list ≡ Some m)
   exists-next list w h = elim (least_of list) [
     | inl none ↦ absurd (none w h)
-    | inr m ↦ first_of-some (is_next derivation list) list m.0 Waiting m.1 (list_all-by (λ x. not (is_waiting x.kind && is_lt (rank_cmp derivation.mode (rank_of derivation x.shape) (rank_of derivation m.0)))) list (λ n k g. at m.0 m.2 n k g))
+    | inr m ↦ first_of-some (is_next derivation list) list m.0 Waiting m.1
+        (list_all-by (λ x. not (is_waiting x.kind
+        && is_lt (rank_cmp derivation.mode (rank_of derivation x.shape) (rank_of derivation m.0)))) list (λ n k g. at m.0 m.2 n k g))
   ]
     where
       at : (m : N) → ((v : N) → Has list v Waiting → Below v m → ⊥) → (n : N) (k : Kind F P) → Has list n k
@@ -104,7 +107,10 @@ module _ {N A F P : Type 0} (derivation : Derivation N A F P) where
     count-told list apart m h w (Ok cs) e =
         let i = Has-index list m.shape m.kind h in
         let there : slice_get list i.0 ≡ Some m = i.2 ∙ (λ t. Some (record { shape = i.3 t; kind = i.4 t })) in
-        ap (λ l. expanded_in (l ++ cs)) (become-set derivation list i.0 m Done apart there) ∙ (expanded-append (slice_set list i.0 (record { shape = m.shape; kind = Done })) cs ∙ ((λ t. expanded-set list i.0 m (record { shape = m.shape; kind = Done }) there w refl t + expanded-new derivation cs (λ j c g. (laws.child m.shape (asked derivation list m.shape) cs e j c g).2) t) ∙ omega arith))
+        ap (λ l. expanded_in (l ++ cs)) (become-set derivation list i.0 m Done apart there)
+        ∙ (expanded-append (slice_set list i.0 (record { shape = m.shape; kind = Done })) cs
+        ∙ ((λ t. expanded-set list i.0 m (record { shape = m.shape; kind = Done }) there w refl t +
+        expanded-new derivation cs (λ j c g. (laws.child m.shape (asked derivation list m.shape) cs e j c g).2) t) ∙ omega arith))
     count-told list apart m h w (Err f) e =
         let i = Has-index list m.shape m.kind h in
         let there : slice_get list i.0 ≡ Some m = i.2 ∙ (λ t. Some (record { shape = i.3 t; kind = i.4 t })) in
@@ -143,12 +149,15 @@ module _ {N A F P : Type 0} (derivation : Derivation N A F P) where
       | inl t ↦
           let lt : m < budget = grind (arith, nat_tests) in
           let gap : (budget - m) + m ≡ budget = omega arith in
-          let more : length (reached derivation m) ≤ length (reached derivation budget) = subst (λ j. length (reached derivation m) ≤ length (reached derivation j)) gap (reached-longer derivation m (budget - m)) in
+          let more : length (reached derivation m) ≤ length (reached derivation budget) = subst (λ j. length
+          (reached derivation m) ≤ length (reached derivation j)) gap (reached-longer derivation m (budget - m)) in
           omega (arith, more, fits)
       | inr f ↦
           let ge : budget ≤ m = grind (arith, nat_tests) in
           let gap : (m - budget) + budget ≡ m = omega arith in
-          let same : length (reached derivation m) ≡ length (reached derivation budget) = ap (λ j. length (reached derivation j)) (sym gap) ∙ ap length (settled-reached derivation budget (m - budget) (settled-by budget fits)) in
+          let same : length (reached derivation m) ≡ length
+          (reached derivation budget) = ap (λ j. length (reached derivation j)) (sym gap)
+          ∙ ap length (settled-reached derivation budget (m - budget) (settled-by budget fits)) in
           omega (arith, same, fits)
     ]
 
@@ -158,10 +167,14 @@ module _ {N A F P : Type 0} (derivation : Derivation N A F P) where
         (λ list. ((m : ℕ) → length (reached derivation m) ≤ budget)
         × ((n : ℕ) × (n ≤ budget) × (list ≡ reached derivation n) × ((s : N) → Has list s Waiting → ⊥)))
     unfolding derive
-    says budget = elim (nat_lt budget (length (reached derivation budget))) as (λ b. nat_lt budget (length (reached derivation budget)) ≡ b → MatchOption (cond b None (Some (reached derivation budget))) ((n : ℕ) × (budget < length (reached derivation n))) (λ list. ((m : ℕ) → length (reached derivation m) ≤ budget) × ((n : ℕ) × (n ≤ budget) × (list ≡ reached derivation n) × ((s : N) → Has list s Waiting → ⊥)))) [
-      | true ↦ λ e. (budget, over budget e)
-      | false ↦ λ e. let fits = within budget e in (never-more budget fits, (budget, omega arith, refl, settled-by budget fits))
-    ] refl
+    says budget = elim (nat_lt budget (length (reached derivation budget))) as (λ b. nat_lt budget
+        (length (reached derivation budget)) ≡ b → MatchOption (cond b None (Some (reached derivation budget)))
+        ((n : ℕ) × (budget < length (reached derivation n)))
+        (λ list. ((m : ℕ) → length (reached derivation m) ≤ budget)
+        × ((n : ℕ) × (n ≤ budget) × (list ≡ reached derivation n) × ((s : N) → Has list s Waiting → ⊥)))) [
+          | true ↦ λ e. (budget, over budget e)
+          | false ↦ λ e. let fits = within budget e in (never-more budget fits, (budget, omega arith, refl, settled-by budget fits))
+        ] refl
       where
         over : (k : ℕ) → nat_lt k (length (reached derivation k)) ≡ true → k < length (reached derivation k)
         over k e = grind (arith, nat_tests)

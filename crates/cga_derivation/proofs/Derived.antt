@@ -43,7 +43,8 @@ module _ {N A F P : Type 0} (derivation : Derivation N A F P) (laws : IsDerivati
   shapes-erased t u [] agree = refl
   shapes-erased t u (x ∷ xs) agree =
       let rest = shapes-erased t u xs (λ s k h. agree s k (inr h)) in
-      elim (t x.shape x.kind) as (λ b. map (λ (m : Site N). m.shape) (cond b (x.shape ∷ shapes_where t xs) (shapes_where t xs)) ≡ cond b (x.shape.shape ∷ shapes_where u (erase xs)) (shapes_where u (erase xs))) [
+      elim (t x.shape x.kind) as (λ b. map (λ (m : Site N). m.shape)
+      (cond b (x.shape ∷ shapes_where t xs) (shapes_where t xs)) ≡ cond b (x.shape.shape ∷ shapes_where u (erase xs)) (shapes_where u (erase xs))) [
         | true ↦ ap (λ l. x.shape.shape ∷ l) rest
         | false ↦ rest
       ] ∙ ap (λ b. cond b (x.shape.shape ∷ shapes_where u (erase xs)) (shapes_where u (erase xs))) (agree x.shape x.kind (inl (refl, refl)))
@@ -53,7 +54,9 @@ module _ {N A F P : Type 0} (derivation : Derivation N A F P) (laws : IsDerivati
   outcome-erased s k h =
       let at = ap (stamp derivation.mode) (chain s k h) in
       let exists = shapes-erased (order.exists_at W s) (exists_at derivation (erase C) s.shape) C (λ t j g. λ i. is_lt (stamps_cmp derivation.mode (birth derivation.mode (chain t j g i)) (at i))) in
-      let waits = shapes-erased (order.waits_at W s) (waits_at derivation (erase C) s.shape) C (λ t j g. λ i. (is_lt (stamps_cmp derivation.mode (birth derivation.mode (chain t j g i)) (at i)) && not (is_instance j)) && is_lt (stamps_cmp derivation.mode (at i) (stamp derivation.mode (chain t j g i)))) in
+      let waits = shapes-erased (order.waits_at W s) (waits_at derivation (erase C) s.shape) C
+      (λ t j g. λ i. (is_lt (stamps_cmp derivation.mode (birth derivation.mode (chain t j g i)) (at i))
+      && not (is_instance j)) && is_lt (stamps_cmp derivation.mode (at i) (stamp derivation.mode (chain t j g i)))) in
       λ i. all_sited (chain_of derivation s).priorities (derivation.expand s.shape (derivation.answers s.shape (exists i) (waits i)))
 
   stands-erased : (s : Site N) (k : Kind F P) → Stands C s k → Stands (erase C) s.shape k
@@ -77,12 +80,16 @@ module _ {N A F P : Type 0} (derivation : Derivation N A F P) (laws : IsDerivati
     roots = λ r h. stands-erased (record { shape = r; above = [] }) Waiting (good.roots (record { shape = r; above = [] }) (rooted-Among derivation.roots r h));
     each = λ x k h z.
         let w = Has-erased C x k h in
-        subst (λ y. HasOutcome (erase C) k (outcome_at derivation (erase C) y)) w.2 (has-outcome (chain_of derivation w.0).priorities k (outcome_at derivation (erase C) w.0.shape) (subst (HasOutcome C k) (outcome-erased w.0 k w.1) (good.each w.0 k w.1 z tt)));
+        subst (λ y. HasOutcome (erase C) k (outcome_at derivation (erase C) y)) w.2
+        (has-outcome (chain_of derivation w.0).priorities k (outcome_at derivation (erase C) w.0.shape)
+        (subst (HasOutcome C k) (outcome-erased w.0 k w.1) (good.each w.0 k w.1 z tt)));
     only = λ x k h.
         let w = Has-erased C x k h in
         elim (good.only w.0 k w.1 tt) [
           | inl root ↦ inl (subst (λ y. Among y derivation.roots) w.2 (Among-rooted derivation.roots w.0 root).0)
-          | inr made ↦ inr (subst (IsMade derivation (erase C)) w.2 (made-erased w.0 made.0 made.2 (outcome_at derivation (erase C) made.0.shape) made.1 made.4.0 refl (sym (outcome-erased made.0 Done made.2) ∙ made.3) made.4.1))
+          | inr made ↦ inr (subst (IsMade derivation (erase C)) w.2
+              (made-erased w.0 made.0 made.2 (outcome_at derivation (erase C) made.0.shape) made.1 made.4.0 refl
+              (sym (outcome-erased made.0 Done made.2) ∙ made.3) made.4.1))
         ];
   }
 

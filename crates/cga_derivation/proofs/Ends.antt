@@ -35,7 +35,9 @@ module _ {N A F P : Type 0} (derivation : Derivation N A F P) where
   pub apart-left : (xs ys : List (Placed (Site N) F P)) → SitesApart derivation (xs ++ ys) → SitesApart derivation xs
   apart-left xs ys apart i j m n e f = apart i j m n (slice_get-append_left xs ys i m e) (slice_get-append_left xs ys j n f)
 
-  module _ (laws : IsDerivation derivation) {K : Type 0} (mode_of : K → Mode) (key_chain : K → Chain) (cmp : K → K → Ordering) (agrees : (a b : K) → mode_of a ≡ derivation.mode → mode_of b ≡ derivation.mode → cmp a b ≡ stamp_cmp derivation.mode (key_chain a) (key_chain b)) where
+  module _ (laws : IsDerivation derivation) {K : Type 0} (mode_of : K → Mode) (key_chain : K → Chain)
+      (cmp : K → K → Ordering) (agrees : (a b : K) → mode_of a ≡ derivation.mode → mode_of b ≡ derivation.mode
+      → cmp a b ≡ stamp_cmp derivation.mode (key_chain a) (key_chain b)) where
     -- no root, no key
     pub start-none : HasWaiting derivation mode_of key_chain [] []
     start-none = record { entry = λ k i h. absurd h; waits = λ i m e w. none_some m e }
@@ -50,7 +52,9 @@ module _ {N A F P : Type 0} (derivation : Derivation N A F P) where
         start-sites ∙ (ap (map rooted) split ∙ (map-append rooted rs (r ∷ rest) ∙ sym (append_assoc_one (map rooted rs) (rooted r ∷ []) (map rooted rest)))) in
         let apart : SitesApart derivation (map rooted rs ++ rooted r ∷ []) = apart-left _ (map rooted rest) (subst (SitesApart derivation) all (apart-start derivation laws)) in
         let pushed = key-push derivation mode_of key_chain cmp agrees (map rooted rs) (rooted r) apart es has refl k mode chain in
-        subst (λ l. HasWaiting derivation mode_of key_chain l (insert_entry cmp es k (length rs))) (sym (map-append rooted rs (r ∷ []))) (subst (λ n. HasWaiting derivation mode_of key_chain (map rooted rs ++ rooted r ∷ []) (insert_entry cmp es k n)) (length-map rooted rs) pushed)
+        subst (λ l. HasWaiting derivation mode_of key_chain l (insert_entry cmp es k (length rs)))
+        (sym (map-append rooted rs (r ∷ [])))
+        (subst (λ n. HasWaiting derivation mode_of key_chain (map rooted rs ++ rooted r ∷ []) (insert_entry cmp es k n)) (length-map rooted rs) pushed)
 
     -- all roots
     pub start-all : (es : List (K × ℕ)) → HasWaiting derivation mode_of key_chain (map rooted derivation.roots) es

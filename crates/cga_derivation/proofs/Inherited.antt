@@ -28,7 +28,9 @@ module _ {N F P : Type 0} where
   Has-roots [] x k h = absurd h
   Has-roots (r ∷ rs) x k h = elim h [ inl e ↦ inl e.0 | inr q ↦ inr (Has-roots rs x k q) ]
 
-module _ {N A F P : Type 0} (derivation : Derivation N A F P) (laws : IsDerivation derivation) (Q : N → Type 0) (roots : (r : N) → Among r derivation.roots → Q r) (children : (s : N) (a : A) (cs : List (Placed N F P)) → Q s → derivation.expand s a ≡ Ok cs → (c : N) (k : Kind F P) → Has cs c k → is_instance k ≡ false → Q c) where
+module _ {N A F P : Type 0} (derivation : Derivation N A F P) (laws : IsDerivation derivation) (Q : N → Type 0)
+    (roots : (r : N) → Among r derivation.roots → Q r) (children : (s : N) (a : A) (cs : List (Placed N F P)) → Q s
+    → derivation.expand s a ≡ Ok cs → (c : N) (k : Kind F P) → Has cs c k → is_instance k ≡ false → Q c) where
   abbrev Members : Type 0
   Members = List (Placed N F P)
 
@@ -66,4 +68,5 @@ module _ {N A F P : Type 0} (derivation : Derivation N A F P) (laws : IsDerivati
           let i = Has-index (reached derivation n) m.shape m.kind here in
           let there : slice_get (reached derivation n) i.0 ≡ Some m = i.2 ∙ (λ t. Some (record { shape = i.3 t; kind = i.4 t })) in
           let known = before m.shape m.kind here (ap is_instance kind) in
-          told-kept (reached derivation n) i.0 m (outcome derivation (reached derivation n) m.shape) there known (λ j. become-set derivation (reached derivation n) i.0 m j (apart-reached derivation laws n) there) before refl x k g plainly
+          told-kept (reached derivation n) i.0 m (outcome derivation (reached derivation n) m.shape) there known
+          (λ j. become-set derivation (reached derivation n) i.0 m j (apart-reached derivation laws n) there) before refl x k g plainly

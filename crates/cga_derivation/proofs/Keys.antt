@@ -41,14 +41,16 @@ module _ {K X : Type 0} (cmp : K → K → Ordering) where
       → ((a : K) (b : X) → Among (a, b) es → cmp k a ≡ Equal → ⊥) → Among (q, w) (insert_entry cmp es k v)
       → (◌≡◌ {A = K × X} (k, v) (q, w)) ⊎ Among (q, w) es
   Among-inserted k v [] q w new h = elim h [ inl e ↦ inl e | inr r ↦ absurd r ]
-  Among-inserted k v (e ∷ es) q w new h = elim (cmp k e.0) as (λ o. cmp k e.0 ≡ o → Among (q, w) (match_ordering o ((k, v) ∷ e ∷ es) ((e.0, v) ∷ es) (e ∷ insert_entry cmp es k v)) → (◌≡◌ {A = K × X} (k, v) (q, w)) ⊎ Among (q, w) (e ∷ es)) [
-    | Less ↦ λ c g. elim g [ inl a ↦ inl a | inr r ↦ inr r ]
-    | Equal ↦ λ c g. absurd (new e.0 e.1 (inl refl) c)
-    | Greater ↦ λ c g. elim g [
-      | inl a ↦ inr (inl a)
-      | inr r ↦ elim (Among-inserted k v es q w (λ a b i. new a b (inr i)) r) [ inl a ↦ inl a | inr b ↦ inr (inr b) ]
-    ]
-  ] refl h
+  Among-inserted k v (e ∷ es) q w new h = elim (cmp k e.0) as (λ o. cmp k e.0 ≡ o
+      → Among (q, w) (match_ordering o ((k, v) ∷ e ∷ es) ((e.0, v) ∷ es) (e ∷ insert_entry cmp es k v))
+      → (◌≡◌ {A = K × X} (k, v) (q, w)) ⊎ Among (q, w) (e ∷ es)) [
+        | Less ↦ λ c g. elim g [ inl a ↦ inl a | inr r ↦ inr r ]
+        | Equal ↦ λ c g. absurd (new e.0 e.1 (inl refl) c)
+        | Greater ↦ λ c g. elim g [
+          | inl a ↦ inr (inl a)
+          | inr r ↦ elim (Among-inserted k v es q w (λ a b i. new a b (inr i)) r) [ inl a ↦ inl a | inr b ↦ inr (inr b) ]
+        ]
+      ] refl h
 
   inserted-Among : (k : K) (v : X) (es : List (K × X)) → ((a : K) (b : X) → Among (a, b) es → cmp k a ≡ Equal → ⊥)
       → Among (k, v) (insert_entry cmp es k v)
@@ -122,7 +124,8 @@ module _ {N A F P : Type 0} (derivation : Derivation N A F P) where
       → map (become derivation m.shape k) list ≡ slice_set list i (record { shape = m.shape; kind = k })
   become-set list i m k apart e = becomes-set m.shape k list i m e refl (λ j n f same. apart j i n m f e same)
 
-  module _ {K : Type 0} (mode_of : K → Mode) (key_chain : K → Chain) (cmp : K → K → Ordering) (agrees : (a b : K) → mode_of a ≡ derivation.mode → mode_of b ≡ derivation.mode → cmp a b ≡ stamp_cmp derivation.mode (key_chain a) (key_chain b)) where
+  module _ {K : Type 0} (mode_of : K → Mode) (key_chain : K → Chain) (cmp : K → K → Ordering) (agrees : (a b : K)
+      → mode_of a ≡ derivation.mode → mode_of b ≡ derivation.mode → cmp a b ≡ stamp_cmp derivation.mode (key_chain a) (key_chain b)) where
     abbrev HasKeys : Members → List (K × ℕ) → Type 0
     HasKeys C es = HasWaiting derivation mode_of key_chain C es
 

@@ -75,14 +75,17 @@ module _ {N A F P : Type 0} (derivation : Derivation N A F P) where
   abbrev world : World (Site N) A F P
   world = world_of derivation
 
-  module _ (C : Members) (good : steps.IsOrdered world C) (m : Placed (Site N) F P) (was : Has C m.shape Waiting) (least : (w : Site N) → Has C w Waiting → steps.SamePlace world w m.shape ⊎ IsEarlier world (stamp_of world m.shape) (stamp_of world w)) where
+  module _ (C : Members) (good : steps.IsOrdered world C) (m : Placed (Site N) F P) (was : Has C m.shape Waiting)
+      (least : (w : Site N) → Has C w Waiting → steps.SamePlace world w m.shape ⊎ IsEarlier world (stamp_of world m.shape) (stamp_of world w)) where
     -- no member that waits has a smaller rank
     none_less : (w : Site N) → Has C w Waiting
         → rank_cmp derivation.mode (rank (chain_of derivation w)) (rank (chain_of derivation m.shape)) ≡ Less → ⊥
     none_less w h less = elim (least w h) [
       | inl same ↦
           let is : w ≡ m.shape = (good.distinct w m.shape Waiting Waiting h was same).0 in
-          let tie : rank_cmp derivation.mode (rank (chain_of derivation w)) (rank (chain_of derivation m.shape)) ≡ Equal = ap (λ x. rank_cmp derivation.mode (rank (chain_of derivation w)) (rank (chain_of derivation x))) (sym is) ∙ tied_itself (rank_total derivation.mode) (rank (chain_of derivation w)) in
+          let tie : rank_cmp derivation.mode (rank (chain_of derivation w)) (rank (chain_of derivation m.shape))
+          ≡ Equal = ap (λ x. rank_cmp derivation.mode (rank (chain_of derivation w))
+          (rank (chain_of derivation x))) (sym is) ∙ tied_itself (rank_total derivation.mode) (rank (chain_of derivation w)) in
           let x : Less ≡ Equal = sym less ∙ tie in
           cc
       | inr before ↦
@@ -94,7 +97,9 @@ module _ {N A F P : Type 0} (derivation : Derivation N A F P) where
 
     passes : is_waiting m.kind ≡ true → is_next derivation (erase C) (erased m) ≡ true
     passes waiting =
-        both_make _ _ waiting (list_all-by (λ x. not (is_waiting x.kind && is_lt (rank_cmp derivation.mode (rank_of derivation x.shape) (rank_of derivation m.shape.shape)))) (erase C) (λ n k h. at n k h))
+        both_make _ _ waiting (list_all-by
+        (λ x. not (is_waiting x.kind && is_lt (rank_cmp derivation.mode (rank_of derivation x.shape)
+        (rank_of derivation m.shape.shape)))) (erase C) (λ n k h. at n k h))
       where
         at : (n : N) (k : Kind F P) → Has (erase C) n k
             → not (is_waiting k && is_lt
@@ -113,12 +118,15 @@ module _ {N A F P : Type 0} (derivation : Derivation N A F P) where
         let parts = both _ _ e in
         let waiting = waiting_kind k parts.0 in
         let hw : Has C s Waiting = subst (Has C s) waiting h in
-        let t = list_all-at (λ x. not (is_waiting x.kind && is_lt (rank_cmp derivation.mode (rank_of derivation x.shape) (rank_of derivation s.shape)))) (erase C) m.shape.shape Waiting parts.1 (Has-erase C m.shape Waiting was) in
+        let t = list_all-at (λ x. not (is_waiting x.kind
+        && is_lt (rank_cmp derivation.mode (rank_of derivation x.shape) (rank_of derivation s.shape))))
+        (erase C) m.shape.shape Waiting parts.1 (Has-erase C m.shape Waiting was) in
         elim (least s hw) [
           | inl same ↦ ((good.distinct s m.shape Waiting Waiting hw was same).0, waiting ∙ sym kind)
           | inr before ↦
               let up = rank-before derivation.mode (chain_of derivation m.shape) (chain_of derivation s) (good.born s m.shape Waiting hw was) before in
-              let less : rank_cmp derivation.mode (rank_of derivation m.shape.shape) (rank_of derivation s.shape) ≡ Less = (λ i. rank_cmp derivation.mode (sym (rank-site derivation m.shape) i) (sym (rank-site derivation s) i)) ∙ up in
+              let less : rank_cmp derivation.mode (rank_of derivation m.shape.shape) (rank_of derivation s.shape)
+              ≡ Less = (λ i. rank_cmp derivation.mode (sym (rank-site derivation m.shape) i) (sym (rank-site derivation s) i)) ∙ up in
               let x : false ≡ true = ap (λ o. not (is_lt o)) (sym less) ∙ t in
               cc
         ]

@@ -117,8 +117,11 @@ module _ {N A F P : Type 0} (derivation : Derivation N A F P) where
       child = λ s a children e i c g.
           let w = all_sited-ok (chain_of derivation s).priorities (derivation.expand s.shape a) children e in
           let at = slice_get-map (sited (chain_of derivation s).priorities) w.0 i c (subst (λ l. slice_get l i ≡ Some c) w.2 g) in
-          let law = laws.child s.shape a w.0 w.1 i at.0 at.1 in
-          (subst (λ (x : Placed (Site N) F P). IsChild (chain_of derivation s) i (chain_of derivation x.shape)) at.2 (IsChild-sited s i at.0.shape law.0 law.1), subst (λ (x : Placed (Site N) F P). IsNew x.kind) at.2 law.2);
+          let law = laws.child s.shape a w.0 w.1 i at.0 at.1 in (
+            subst (λ (x : Placed (Site N) F P). IsChild (chain_of derivation s) i (chain_of derivation x.shape))
+                at.2 (IsChild-sited s i at.0.shape law.0 law.1),
+            subst (λ (x : Placed (Site N) F P). IsNew x.kind) at.2 law.2,
+          );
       unseen = λ n m e. laws.unseen n.shape m.shape e;
       local = λ n existing waiting existing' waiting' e w.
           laws.local n.shape _ _ _ _ (SameSeen-shapes n existing existing' e) (SameSeen-shapes n waiting waiting' w);

@@ -57,7 +57,9 @@ module _ {N A F P : Type 0} (derivation : Derivation N A F P) where
         (suc (length (derivation.path s.shape))) ≡ priorities_down derivation (erase C) (derivation.lot s.shape)
         (derivation.path s.shape) (length (derivation.path s.shape)) ++ derivation.priority s.shape ∷ []
     down-last s k h =
-        let own : priority_at derivation (erase C) (derivation.lot s.shape) (take (length (derivation.path s.shape)) (derivation.path s.shape)) ≡ derivation.priority s.shape = ap (priority_at derivation (erase C) (derivation.lot s.shape)) (take-length (derivation.path s.shape)) ∙ priority-here s k h in
+        let own : priority_at derivation (erase C) (derivation.lot s.shape)
+        (take (length (derivation.path s.shape)) (derivation.path s.shape)) ≡ derivation.priority
+        s.shape = ap (priority_at derivation (erase C) (derivation.lot s.shape)) (take-length (derivation.path s.shape)) ∙ priority-here s k h in
         ap (λ p. priorities_down derivation (erase C) (derivation.lot s.shape) (derivation.path s.shape) (length (derivation.path s.shape)) ++ p ∷ []) own
 
     above-is : (size : ℕ) (s : Site N) (k : Kind F P) → Has C s k → length (derivation.path s.shape) ≡ size
@@ -69,9 +71,13 @@ module _ {N A F P : Type 0} (derivation : Derivation N A F P) where
       | inr u ↦
           let parent = u.0 in
           let long : length (derivation.path s.shape) ≡ suc (length (derivation.path parent.shape)) = ap length u.3.path ∙ (length-append (derivation.path parent.shape) (u.1 ∷ []) ∙ omega arith) in
-          let front : fitted (length (derivation.path s.shape)) s.above ≡ (chain_of derivation parent).priorities = (snoc-same (fitted (length (derivation.path s.shape)) s.above) (chain_of derivation parent).priorities (derivation.priority s.shape) u.3.priorities.0 u.3.priorities.1).0 in
+          let front : fitted (length (derivation.path s.shape)) s.above
+          ≡ (chain_of derivation parent).priorities = (snoc-same
+          (fitted (length (derivation.path s.shape)) s.above) (chain_of derivation parent).priorities
+          (derivation.priority s.shape) u.3.priorities.0 u.3.priorities.1).0 in
           let known = above-is size parent _ u.2 (omega (arith, long, e)) in
-          let whole : (chain_of derivation parent).priorities ≡ priorities_down derivation (erase C) (derivation.lot parent.shape) (derivation.path parent.shape) (suc (length (derivation.path parent.shape))) =
+          let whole : (chain_of derivation parent).priorities ≡ priorities_down derivation (erase C)
+          (derivation.lot parent.shape) (derivation.path parent.shape) (suc (length (derivation.path parent.shape))) =
           ap (λ ps. ps ++ derivation.priority parent.shape ∷ []) known ∙ sym (down-last parent _ u.2) in
           let same = down-same (derivation.lot parent.shape) (derivation.path parent.shape) u.1 (suc (length (derivation.path parent.shape))) (omega arith) in
           front ∙ (whole ∙ (sym same ∙ (λ t. priorities_down derivation (erase C) (sym u.3.lot t) (sym u.3.path t) (sym long t))))
@@ -95,8 +101,12 @@ module _ {N A F P : Type 0} (derivation : Derivation N A F P) where
         all [] in_list h = tt
         all (t ∷ ts) in_list h =
             let a = in_list t (inl refl) in
-            let b = there s (inl refl) in
-            (subst (λ c. IsEarlier derivation (stamp derivation.mode c) (stamp_in derivation (erase C) s.shape)) (chain-is t a.0 a.1) (subst (λ c. IsEarlier derivation (stamp derivation.mode (chain_of derivation t)) (stamp derivation.mode c)) (chain-is s b.0 b.1) h.0), all ts (λ u i. in_list u (inr i)) h.1)
+            let b = there s (inl refl) in (
+              subst (λ c. IsEarlier derivation (stamp derivation.mode c) (stamp_in derivation (erase C) s.shape))
+                  (chain-is t a.0 a.1) (subst (λ c. IsEarlier derivation
+                  (stamp derivation.mode (chain_of derivation t)) (stamp derivation.mode c)) (chain-is s b.0 b.1) h.0),
+              all ts (λ u i. in_list u (inr i)) h.1,
+            )
 
   module _ (laws : IsDerivation derivation) where
     -- after any number of steps the sites are in order
@@ -107,7 +117,9 @@ module _ {N A F P : Type 0} (derivation : Derivation N A F P) where
     unfolding taken expanded
     taken-shapes zero = refl
     taken-shapes (suc n) =
-        let found : next_of derivation (reached derivation n) ≡ option_of erased (next_site derivation (sites derivation n)) = ap (next_of derivation) (sym (erase-sites derivation n)) ∙ next-along derivation (sites derivation n) in
+        let found : next_of derivation (reached derivation n) ≡ option_of erased
+        (next_site derivation (sites derivation n)) = ap (next_of derivation) (sym (erase-sites derivation n))
+        ∙ next-along derivation (sites derivation n) in
         by (next_site derivation (sites derivation n)) ∙ ((λ i. taken_next derivation (sym found i) (taken-shapes n i)))
       where
         by : (o : Option (Placed (Site N) F P))
@@ -120,7 +132,10 @@ module _ {N A F P : Type 0} (derivation : Derivation N A F P) where
     pub rises : (n : ℕ) → RisesIn derivation (reached derivation n) (expanded derivation n)
     rises n =
         let C = sites derivation n in
-        let made = rises-in C (good-at n) (taken derivation n) (λ t i. let w = steps.taken_done (world_of derivation) (world derivation laws) (taken derivation n) C (reached-sites derivation n) t i in (w.0, w.1)) (steps.rises (world_of derivation) (world derivation laws) (taken derivation n) C (reached-sites derivation n)) in
+        let made = rises-in C (good-at n) (taken derivation n)
+        (λ t i. let w = steps.taken_done (world_of derivation) (world derivation laws) (taken derivation n) C
+        (reached-sites derivation n) t i in (w.0, w.1))
+        (steps.rises (world_of derivation) (world derivation laws) (taken derivation n) C (reached-sites derivation n)) in
         subst (λ l. RisesIn derivation l (expanded derivation n)) (erase-sites derivation n) (subst (RisesIn derivation (erase C)) (taken-shapes n) made)
 
     stands-erased : (C : Members) → steps.IsOrdered (world_of derivation) C → run.StandsByBirth (world_of derivation) C
@@ -149,4 +164,6 @@ module _ {N A F P : Type 0} (derivation : Derivation N A F P) where
 
     -- the members after the roots stand by their parents' stamps, and then by their indices
     pub in_order : (n : ℕ) → StandsInOrder derivation (reached derivation n)
-    in_order n = subst (StandsInOrder derivation) (erase-sites derivation n) (stands-erased (sites derivation n) (good-at n) (stands-reached (world_of derivation) (world derivation laws) (taken derivation n) (sites derivation n) (reached-sites derivation n)))
+    in_order n = subst (StandsInOrder derivation) (erase-sites derivation n)
+        (stands-erased (sites derivation n) (good-at n)
+        (stands-reached (world_of derivation) (world derivation laws) (taken derivation n) (sites derivation n) (reached-sites derivation n)))

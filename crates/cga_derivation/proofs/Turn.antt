@@ -22,7 +22,9 @@ use Rattle.cga_derivation.proofs.Counts.{expanded-set, expanded-append, expanded
 use Rattle.cga_derivation.proofs.Keys.{become-set, key-next, key-pop}
 use Rattle.cga_fraction.proofs.Door.{slice_get-map_Some}
 
-module _ {N A F P : Type 0} (derivation : Derivation N A F P) (laws : IsDerivation derivation) {K : Type 0} (mode_of : K → Mode) (key_chain : K → Chain) (cmp : K → K → Ordering) (agrees : (a b : K) → mode_of a ≡ derivation.mode → mode_of b ≡ derivation.mode → cmp a b ≡ stamp_cmp derivation.mode (key_chain a) (key_chain b)) where
+module _ {N A F P : Type 0} (derivation : Derivation N A F P) (laws : IsDerivation derivation) {K : Type 0}
+    (mode_of : K → Mode) (key_chain : K → Chain) (cmp : K → K → Ordering) (agrees : (a b : K)
+    → mode_of a ≡ derivation.mode → mode_of b ≡ derivation.mode → cmp a b ≡ stamp_cmp derivation.mode (key_chain a) (key_chain b)) where
   abbrev Members : Type 0
   Members = List (Placed N F P)
 
@@ -67,7 +69,8 @@ module _ {N A F P : Type 0} (derivation : Derivation N A F P) (laws : IsDerivati
           → reached derivation (suc n) ≡ told derivation list x.shape r
       unfolding reached step
       reached-next r e =
-          let found : next_of derivation list ≡ Some x = ap (next_of derivation) (sym erase-list) ∙ (next-along derivation (sites derivation n) ∙ (ap (option_of erased) next.4 ∙ ap Some same_member)) in
+          let found : next_of derivation list ≡ Some x = ap (next_of derivation) (sym erase-list)
+          ∙ (next-along derivation (sites derivation n) ∙ (ap (option_of erased) next.4 ∙ ap Some same_member)) in
           ap (λ l. step_by derivation l (next_of derivation l)) (sym turn.list_is) ∙ (ap (step_by derivation list) found ∙ ap (told derivation list x.shape) e)
 
       site : Site N
@@ -84,8 +87,11 @@ module _ {N A F P : Type 0} (derivation : Derivation N A F P) (laws : IsDerivati
       unfolding sites site
       sites-next r e =
           let answers = asked-erase derivation (sites derivation n) next.0.shape ∙ (λ i. asked derivation (erase-list i) (site-shape i)) in
-          let result : derivation.expand next.0.shape.shape ((world_of derivation).answers next.0.shape (worlds.shapes_where (λ n k. true) (sites derivation n)) (worlds.shapes_where (λ n k. worlds.is_waiting k) (sites derivation n))) ≡ r = (λ i. derivation.expand (site-shape i) (answers i)) ∙ e in
-          ap (step_sites_by derivation (sites derivation n)) next.4 ∙ ap (λ q. run.told (world_of derivation) (sites derivation n) next.0.shape (all_sited (chain_of derivation next.0.shape).priorities q)) result
+          let result : derivation.expand next.0.shape.shape
+          ((world_of derivation).answers next.0.shape (worlds.shapes_where (λ n k. true) (sites derivation n))
+          (worlds.shapes_where (λ n k. worlds.is_waiting k) (sites derivation n))) ≡ r = (λ i. derivation.expand (site-shape i) (answers i)) ∙ e in
+          ap (step_sites_by derivation (sites derivation n)) next.4
+          ∙ ap (λ q. run.told (world_of derivation) (sites derivation n) next.0.shape (all_sited (chain_of derivation next.0.shape).priorities q)) result
 
       -- where the taken member expands to a fault, the list with that in its place and the keys left are one turn on
       pub turn-fault : (f : F) → derivation.expand x.shape (asked derivation list x.shape) ≡ Err f
@@ -94,7 +100,9 @@ module _ {N A F P : Type 0} (derivation : Derivation N A F P) (laws : IsDerivati
       unfolding site
       turn-fault f e = record {
         list_is = sym (reached-next (Err f) e ∙ become-set derivation list at x (Faulted f) apart there);
-        keys = subst (λ C. HasWaiting derivation mode_of key_chain C entries) (sym (sites-next (Err f) e)) (key-pop derivation mode_of key_chain cmp agrees (sites derivation n) (apart-sites derivation laws n) k at entries turn.keys turn.above next.0 next.1 (Faulted f) (λ q. let y : Faulted f ≡ Waiting = q in cc));
+        keys = subst (λ C. HasWaiting derivation mode_of key_chain C entries) (sym (sites-next (Err f) e))
+            (key-pop derivation mode_of key_chain cmp agrees (sites derivation n) (apart-sites derivation laws n) k
+            at entries turn.keys turn.above next.0 next.1 (Faulted f) (λ q. let y : Faulted f ≡ Waiting = q in cc));
         count = expanded-set list at x (record { shape = x.shape; kind = Faulted f }) there waits refl ∙ (ap (λ c. c + 1) turn.count ∙ omega arith);
       }
 
@@ -113,12 +121,16 @@ module _ {N A F P : Type 0} (derivation : Derivation N A F P) (laws : IsDerivati
           let is : sites derivation (suc n) ≡ C ++ map (sited (key_chain k).priorities) cs = sites-next (Ok cs) e ∙ ap (λ ps. C ++ map (sited ps) cs) above in (
             C,
             length-map (run.become (world_of derivation) next.0.shape Done) (sites derivation n) ∙ (sym (length-map erased (sites derivation n)) ∙ ap length erase-list),
-            key-pop derivation mode_of key_chain cmp agrees (sites derivation n) (apart-sites derivation laws n) k at entries turn.keys turn.above next.0 next.1 Done (λ q. let y : ◌≡◌ {A = Kind F P} Done Waiting = q in cc),
+            key-pop derivation mode_of key_chain cmp agrees (sites derivation n) (apart-sites derivation laws n) k
+                at entries turn.keys turn.above next.0 next.1 Done (λ q. let y : ◌≡◌ {A = Kind F P} Done Waiting = q in cc),
             subst (SitesApart derivation) is (apart-sites derivation laws (suc n)),
             λ entries' has. record {
               list_is = sym (reached-next (Ok cs) e ∙ ap (λ l. l ++ cs) (become-set derivation list at x Done apart there));
               keys = subst (λ D. HasWaiting derivation mode_of key_chain D entries') (sym is) has;
               count =
-                  expanded-append (slice_set list at (record { shape = x.shape; kind = Done })) cs ∙ (λ i. expanded-set list at x (record { shape = x.shape; kind = Done }) there waits refl i + expanded-new derivation cs (λ j c h. (laws.child x.shape (asked derivation list x.shape) cs e j c h).2) i) ∙ (ap (λ c. (c + 1) + 0) turn.count ∙ omega arith);
+                  expanded-append (slice_set list at (record { shape = x.shape; kind = Done })) cs
+                  ∙ (λ i. expanded-set list at x (record { shape = x.shape; kind = Done }) there waits refl i +
+                  expanded-new derivation cs (λ j c h. (laws.child x.shape (asked derivation list x.shape) cs e
+                  j c h).2) i) ∙ (ap (λ c. (c + 1) + 0) turn.count ∙ omega arith);
             },
           )

@@ -96,8 +96,12 @@ module _ {N A F P : Type 0} (derivation : Derivation N A F P) (laws : IsDerivati
   -- the chain of a lifted member is that which the list tells
   site-chain : (n : N) (k : Kind F P) → Has list n k → chain_of derivation (site n) ≡ chain_in derivation list n
   site-chain n k h =
-      let above = fitted-same (length (derivation.path n)) (down (derivation.lot n) (derivation.path n) (length (derivation.path n))) (down-length (derivation.lot n) (derivation.path n) (length (derivation.path n))) in
-      let own : derivation.priority n ≡ priority_at derivation list (derivation.lot n) (take (length (derivation.path n)) (derivation.path n)) = sym (ap (priority_at derivation list (derivation.lot n)) (take-length (derivation.path n)) ∙ priority-here n k h) in
+      let above = fitted-same (length (derivation.path n))
+      (down (derivation.lot n) (derivation.path n) (length (derivation.path n)))
+      (down-length (derivation.lot n) (derivation.path n) (length (derivation.path n))) in
+      let own : derivation.priority n ≡ priority_at derivation list (derivation.lot n)
+      (take (length (derivation.path n)) (derivation.path n)) = sym
+      (ap (priority_at derivation list (derivation.lot n)) (take-length (derivation.path n)) ∙ priority-here n k h) in
       λ t. record { lot = derivation.lot n; path = derivation.path n; priorities = above t ++ own t ∷ [] }
 
   pub lifts-Has : (xs : List (Placed N F P)) (s : Site N) (k : Kind F P) → Has (lifts xs) s k
@@ -118,7 +122,8 @@ module _ {N A F P : Type 0} (derivation : Derivation N A F P) (laws : IsDerivati
   shapes-lifts t u [] agree = refl
   shapes-lifts t u (x ∷ xs) agree =
       let rest = shapes-lifts t u xs (λ n k h. agree n k (inr h)) in
-      elim (t (site x.shape) x.kind) as (λ b. map (λ (m : Site N). m.shape) (cond b (site x.shape ∷ shapes_where t (lifts xs)) (shapes_where t (lifts xs))) ≡ cond b (x.shape ∷ shapes_where u xs) (shapes_where u xs)) [
+      elim (t (site x.shape) x.kind) as (λ b. map (λ (m : Site N). m.shape)
+      (cond b (site x.shape ∷ shapes_where t (lifts xs)) (shapes_where t (lifts xs))) ≡ cond b (x.shape ∷ shapes_where u xs) (shapes_where u xs)) [
         | true ↦ ap (λ l. x.shape ∷ l) rest
         | false ↦ rest
       ] ∙ ap (λ b. cond b (x.shape ∷ shapes_where u xs) (shapes_where u xs)) (agree x.shape x.kind (inl (refl, refl)))
@@ -129,8 +134,11 @@ module _ {N A F P : Type 0} (derivation : Derivation N A F P) (laws : IsDerivati
       (outcome_at derivation list n)
   outcome-lifts n k h =
       let at = ap (stamp derivation.mode) (site-chain n k h) in
-      let exists = shapes-lifts (order.exists_at W (site n)) (exists_at derivation list n) list (λ m j g. λ i. is_lt (stamps_cmp derivation.mode (birth derivation.mode (site-chain m j g i)) (at i))) in
-      let waits = shapes-lifts (order.waits_at W (site n)) (waits_at derivation list n) list (λ m j g. λ i. (is_lt (stamps_cmp derivation.mode (birth derivation.mode (site-chain m j g i)) (at i)) && not (is_instance j)) && is_lt (stamps_cmp derivation.mode (at i) (stamp derivation.mode (site-chain m j g i)))) in
+      let exists = shapes-lifts (order.exists_at W (site n)) (exists_at derivation list n) list
+      (λ m j g. λ i. is_lt (stamps_cmp derivation.mode (birth derivation.mode (site-chain m j g i)) (at i))) in
+      let waits = shapes-lifts (order.waits_at W (site n)) (waits_at derivation list n) list
+      (λ m j g. λ i. (is_lt (stamps_cmp derivation.mode (birth derivation.mode (site-chain m j g i)) (at i))
+      && not (is_instance j)) && is_lt (stamps_cmp derivation.mode (at i) (stamp derivation.mode (site-chain m j g i)))) in
       λ i. all_sited (chain_of derivation (site n)).priorities (derivation.expand n (derivation.answers n (exists i) (waits i)))
 
   -- a child that the outcome made has its parent's chain above it
@@ -178,7 +186,9 @@ module _ {N A F P : Type 0} (derivation : Derivation N A F P) (laws : IsDerivati
         subst (λ x. Stands (lifts list) x Waiting) (root-site s.shape (laws.root s.shape a.0) ∙ sym a.1) (stands-lifts s.shape Waiting (good.roots s.shape a.0));
     each = λ s k h x b.
         let a = lifts-Has list s k h in
-        subst (λ y. HasOutcome (lifts list) k (order.outcome_at W (lifts list) y)) (sym a.1) (subst (HasOutcome (lifts list) k) (sym (outcome-lifts s.shape k a.0)) (has-outcome s.shape k a.0 (outcome_at derivation list s.shape) refl (good.each s.shape k a.0 x)));
+        subst (λ y. HasOutcome (lifts list) k (order.outcome_at W (lifts list) y)) (sym a.1)
+        (subst (HasOutcome (lifts list) k) (sym (outcome-lifts s.shape k a.0))
+        (has-outcome s.shape k a.0 (outcome_at derivation list s.shape) refl (good.each s.shape k a.0 x)));
     only = λ s k h b.
         let a = lifts-Has list s k h in
         elim (good.only s.shape k a.0) [
@@ -186,14 +196,23 @@ module _ {N A F P : Type 0} (derivation : Derivation N A F P) (laws : IsDerivati
           | inr made ↦
               let ps = (chain_of derivation (site made.0)).priorities in
               let is : record { shape = s.shape; above = ps } ≡ s = sym (child-site made.0 Done made.2 _ made.1 made.3 s.shape made.4.0 made.4.1) ∙ sym a.1 in
-              inr (site made.0, map (sited ps) made.1, Has-lifts list made.0 Done made.2, outcome-lifts made.0 Done made.2 ∙ ap (all_sited ps) made.3, (made.4.0, subst (λ x. Has (map (sited ps) made.1) x made.4.0) is (Has-sited ps made.1 s.shape made.4.0 made.4.1)))
+              inr (
+                site made.0,
+                map (sited ps) made.1,
+                Has-lifts list made.0 Done made.2,
+                outcome-lifts made.0 Done
+                    made.2 ∙ ap (all_sited ps) made.3,
+                (made.4.0, subst (λ x. Has (map (sited ps) made.1) x made.4.0) is (Has-sited ps made.1 s.shape made.4.0 made.4.1)),
+              )
         ];
   }
 
   -- it has the members of the derivation, whatever order it stands in
   pub unique : (n : ℕ) → NothingWaits derivation (reached derivation n) → SameMembers list (reached derivation n)
   unique n settled x k =
-      let same = same_members W (world derivation laws) (lifts list) consistent (taken derivation n) (sites derivation n) (reached-sites derivation n) (λ w h b. settled w.shape (subst (λ l. Has l w.shape Waiting) (erase-sites derivation n) (Has-erase (sites derivation n) w Waiting h))) in (
+      let same = same_members W (world derivation laws) (lifts list) consistent (taken derivation n)
+      (sites derivation n) (reached-sites derivation n)
+      (λ w h b. settled w.shape (subst (λ l. Has l w.shape Waiting) (erase-sites derivation n) (Has-erase (sites derivation n) w Waiting h))) in (
         λ h. subst (λ l. Has l x k) (erase-sites derivation n) (Has-erase (sites derivation n) (site x) k ((same (site x) k).0 (Has-lifts list x k h))),
         λ h.
             let w = Has-erased (sites derivation n) x k (subst (λ l. Has l x k) (sym (erase-sites derivation n)) h) in

@@ -89,7 +89,9 @@ module _ {N A F P : Type 0} (derivation : Derivation N A F P) (laws : IsDerivati
   pub stands : (n : ℕ) (x : N) (k : Kind F P) → Has (reached derivation n) x k → (j : Kind F P) × Has list x j
   stands n x k h =
       let w = Has-erased (sites derivation n) x k (subst (λ l. Has l x k) (sym (erase-sites derivation n)) h) in
-      let there = has_members (unique.W derivation laws list good) (world derivation laws) None (unique.lifts derivation laws list good list) (unique.consistent derivation laws list good) (taken derivation n) (sites derivation n) (reached-sites derivation n) (all_before (taken derivation n)) w.0 k w.1 in
+      let there = has_members (unique.W derivation laws list good) (world derivation laws) None
+      (unique.lifts derivation laws list good list) (unique.consistent derivation laws list good)
+      (taken derivation n) (sites derivation n) (reached-sites derivation n) (all_before (taken derivation n)) w.0 k w.1 in
       (there.0, subst (λ y. Has list y there.0) w.2 (unique.lifts-Has derivation laws list good list w.0 there.0 there.1).0)
 
   bounded : (n : ℕ) → length (reached derivation n) ≤ length list

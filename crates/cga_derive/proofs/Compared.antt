@@ -30,18 +30,25 @@ some_box p target s list = list_any (λ m. counts target s m && p (box_of m.shap
 some_box-is : (p : Box → Bool) (target : Target) (s : Shape) (list : List Member)
     → some_box p target s list ≡ list_any p (boxes_beside s (targeted target list))
 some_box-is p Noparent s [] = refl
-some_box-is p Noparent s (m ∷ ms) = elim (not (on_path m.shape s)) as (λ b. ((b && p (box_of m.shape.scope)) || some_box p Noparent s ms) ≡ list_any p (map (λ n. box_of n.scope) (cond b (m.shape ∷ filter (λ n. not (on_path n s)) (targeted Noparent ms)) (filter (λ n. not (on_path n s)) (targeted Noparent ms))))) [
-  | true ↦ ap (λ c. p (box_of m.shape.scope) || c) (some_box-is p Noparent s ms)
-  | false ↦ some_box-is p Noparent s ms
-]
+some_box-is p Noparent s (m ∷ ms) = elim (not (on_path m.shape s)) as (λ b. ((b && p (box_of m.shape.scope))
+    || some_box p Noparent s ms) ≡ list_any p
+    (map (λ n. box_of n.scope) (cond b (m.shape ∷ filter (λ n. not (on_path n s)) (targeted Noparent ms))
+    (filter (λ n. not (on_path n s)) (targeted Noparent ms))))) [
+      | true ↦ ap (λ c. p (box_of m.shape.scope) || c) (some_box-is p Noparent s ms)
+      | false ↦ some_box-is p Noparent s ms
+    ]
 some_box-is p Active s [] = refl
-some_box-is p Active s (m ∷ ms) = elim (is_waiting m.kind) as (λ w. (((w && not (on_path m.shape s)) && p (box_of m.shape.scope)) || some_box p Active s ms) ≡ list_any p (boxes_beside s (cond w (m.shape ∷ targeted Active ms) (targeted Active ms)))) [
-  | true ↦ elim (not (on_path m.shape s)) as (λ b. ((b && p (box_of m.shape.scope)) || some_box p Active s ms) ≡ list_any p (map (λ n. box_of n.scope) (cond b (m.shape ∷ filter (λ n. not (on_path n s)) (targeted Active ms)) (filter (λ n. not (on_path n s)) (targeted Active ms))))) [
-    | true ↦ ap (λ c. p (box_of m.shape.scope) || c) (some_box-is p Active s ms)
-    | false ↦ some_box-is p Active s ms
-  ]
-  | false ↦ some_box-is p Active s ms
-]
+some_box-is p Active s (m ∷ ms) = elim (is_waiting m.kind) as (λ w.
+    (((w && not (on_path m.shape s)) && p (box_of m.shape.scope)) || some_box p Active s ms) ≡ list_any p
+    (boxes_beside s (cond w (m.shape ∷ targeted Active ms) (targeted Active ms)))) [
+      | true ↦ elim (not (on_path m.shape s)) as (λ b. ((b && p (box_of m.shape.scope)) || some_box p Active s ms)
+          ≡ list_any p (map (λ n. box_of n.scope)
+          (cond b (m.shape ∷ filter (λ n. not (on_path n s)) (targeted Active ms)) (filter (λ n. not (on_path n s)) (targeted Active ms))))) [
+            | true ↦ ap (λ c. p (box_of m.shape.scope) || c) (some_box-is p Active s ms)
+            | false ↦ some_box-is p Active s ms
+          ]
+      | false ↦ some_box-is p Active s ms
+    ]
 
 pub compared-is : (target : Target) (s : Shape) (list : List Member)
     → compared target s list ≡ answer_of (box_of s.scope) (boxes_beside s (targeted target list))

@@ -33,7 +33,9 @@ module _ (parent : StampKey) (own : List ℕ) where
   list-more xs e list0 list1 list2 i at before now =
       let z : i ≡ 0 + length xs = at ∙ omega arith in
       let created = children-push parent.lot parent.path own 0 xs e in
-      now ∙ ((λ t. before t ++ placed_at parent.lot parent.path own (z t) e ∷ []) ∙ (append_assoc_one list0 (placed_from parent.lot parent.path own 0 xs) (placed_at parent.lot parent.path own (0 + length xs) e ∷ []) ∙ ap (λ l. list0 ++ l) (sym created)))
+      now ∙ ((λ t. before t ++ placed_at parent.lot parent.path own (z t) e ∷ [])
+      ∙ (append_assoc_one list0 (placed_from parent.lot parent.path own 0 xs)
+      (placed_at parent.lot parent.path own (0 + length xs) e ∷ []) ∙ ap (λ l. list0 ++ l) (sym created)))
 
 module _ (sources : Sources) (parent : StampKey) (own : List ℕ) where
   pub keys-none : (list : List Member) (es : List (StampKey × ℕ))
@@ -51,10 +53,14 @@ module _ (sources : Sources) (parent : StampKey) (own : List ℕ) where
       let S = sited_children parent own 0 xs in
       let x = sited parent.priorities (placed_at parent.lot parent.path own i e) in
       let created : sited_children parent own 0 (xs ++ e ∷ []) ≡ S ++ x ∷ [] =
-      ap (map (sited parent.priorities)) (children-push parent.lot parent.path own 0 xs e ∙ ap (λ n. placed_from parent.lot parent.path own 0 xs ++ placed_at parent.lot parent.path own n e ∷ []) z) ∙ map-append (sited parent.priorities) (placed_from parent.lot parent.path own 0 xs) (placed_at parent.lot parent.path own i e ∷ []) in
+      ap (map (sited parent.priorities)) (children-push parent.lot parent.path own 0 xs e
+      ∙ ap (λ n. placed_from parent.lot parent.path own 0 xs ++ placed_at parent.lot parent.path own n e ∷ [])
+      z) ∙ map-append (sited parent.priorities) (placed_from parent.lot parent.path own 0 xs) (placed_at parent.lot parent.path own i e ∷ []) in
       let all : C ++ sited_children parent own 0 (xs ++ e ∷ []) ≡ (C ++ S) ++ x ∷ [] = ap (λ l. C ++ l) created ∙ sym (append_assoc_one C S (x ∷ [])) in
       let apart' : SitesApart (derivation_of sources) ((C ++ S) ++ x ∷ []) = subst (SitesApart (derivation_of sources)) all apart in
       let there = first C mode size (apart-left (derivation_of sources) (C ++ S) (x ∷ []) apart') has in
       let size' : length (C ++ S) ≡ length list1 =
-      length-append C S ∙ ((λ t. size t + length-map (sited parent.priorities) (placed_from parent.lot parent.path own 0 xs) t) ∙ (sym (length-append list0 (placed_from parent.lot parent.path own 0 xs)) ∙ ap length (sym before))) in
+      length-append C S ∙ ((λ t. size t + length-map (sited parent.priorities)
+      (placed_from parent.lot parent.path own 0 xs) t)
+      ∙ (sym (length-append list0 (placed_from parent.lot parent.path own 0 xs)) ∙ ap length (sym before))) in
       subst (λ D. HasKeys sources D es2) (sym all) (second (C ++ S) mode size' apart' there)

@@ -45,7 +45,9 @@ module _ (sources : Sources) (parent : StampKey) (own : List ℕ) (index : ℕ) 
       old new
   solid-keys primitive scope seed same = λ C mode size apart has.
       let x = sited parent.priorities (placed_at parent.lot parent.path own index (Solid primitive scope seed)) in
-      subst (λ es. HasKeys sources (C ++ x ∷ []) es) (sym same) (key-skip (derivation_of sources) (λ k. k.mode) chain_of_key key_cmp (agrees sources.mode) C x old has (λ e. let q : ◌≡◌ {A = Kind ShapeFault Primitive} (Instance primitive) Waiting = e in cc))
+      subst (λ es. HasKeys sources (C ++ x ∷ []) es) (sym same)
+      (key-skip (derivation_of sources) (λ k. k.mode) chain_of_key key_cmp (agrees sources.mode) C x old has
+      (λ e. let q : ◌≡◌ {A = Kind ShapeFault Primitive} (Instance primitive) Waiting = e in cc))
 
   -- either, as the code tells them apart
   pub wait-keys : (e : Emitted) (symbol : List ℕ) → waiting_symbol e ≡ Some symbol
@@ -53,7 +55,8 @@ module _ (sources : Sources) (parent : StampKey) (own : List ℕ) (index : ℕ) 
       → KeepsKeys sources parent (sited parent.priorities (placed_at parent.lot parent.path own index e) ∷ []) list old
       new
   wait-keys (Child own_symbol args scope seed) symbol is added =
-      child-keys own_symbol args scope seed added.0 (length list) (subst (λ n. IsChildKey parent index (priority_of sources.grammar n) added.0) (sym (some_same own_symbol symbol is)) added.1) refl added.2
+      child-keys own_symbol args scope seed added.0 (length list)
+      (subst (λ n. IsChildKey parent index (priority_of sources.grammar n) added.0) (sym (some_same own_symbol symbol is)) added.1) refl added.2
   wait-keys (Solid primitive scope seed) symbol is added = none_some symbol is
 
   pub skip-keys : (e : Emitted) → waiting_symbol e ≡ None → new ≡ old

@@ -50,7 +50,9 @@ module _ (sources : Sources) (differ : NamesDiffer sources.lots) where
     pub roots-more : (list : List Member) → list ≡ roots_up sources.lots i
         → list ++ record { shape = root; kind = Waiting } ∷ [] ≡ roots_up sources.lots (i + 1)
     roots-more list up =
-        ap (λ l. l ++ record { shape = root; kind = Waiting } ∷ []) up ∙ (sym (map-append (λ r. record { shape = r; kind = Waiting }) (roots_of (take i sources.lots)) (root ∷ [])) ∙ ap (map (λ r. record { shape = r; kind = Waiting })) (sym first_roots))
+        ap (λ l. l ++ record { shape = root; kind = Waiting } ∷ []) up
+        ∙ (sym (map-append (λ r. record { shape = r; kind = Waiting }) (roots_of (take i sources.lots))
+        (root ∷ [])) ∙ ap (map (λ r. record { shape = r; kind = Waiting })) (sym first_roots))
 
     pub keys-more : (es new : List (StampKey × ℕ)) (key : StampKey) (place : ℕ) (list : List Member)
         → list ≡ roots_up sources.lots i → HasKeys sources (root_sites_up sources.lots i) es
@@ -59,14 +61,21 @@ module _ (sources : Sources) (differ : NamesDiffer sources.lots) where
     keys-more es new key place list up has top at inserted =
         let rs = roots_of (take i sources.lots) in
         let own = root_is lot root is in
-        let chain = subst (λ n. chain_of_key key ≡ chain_of (derivation_of sources) (record { shape = n; above = [] })) own.1 (λ t. record { lot = top.lot t; path = top.path t; priorities = top.priorities t }) in
-        let pushed = ends.start-push (derivation_of sources) (sources_are_derivations sources differ) (λ k. k.mode) chain_of_key key_cmp (agrees sources.mode) rs root (roots_of (drop (suc i) sources.lots)) all_roots es has key top.mode chain in
+        let chain = subst (λ n. chain_of_key key ≡ chain_of (derivation_of sources)
+        (record { shape = n; above = [] })) own.1 (λ t. record { lot = top.lot t; path = top.path t; priorities = top.priorities t }) in
+        let pushed = ends.start-push (derivation_of sources) (sources_are_derivations sources differ) (λ k. k.mode)
+        chain_of_key key_cmp (agrees sources.mode) rs root (roots_of (drop (suc i) sources.lots)) all_roots es has key top.mode chain in
         let size : place ≡ length rs = at ∙ (ap length up ∙ length-map (λ r. record { shape = r; kind = Waiting }) rs) in
-        subst (λ l. HasKeys sources (map (λ r. record { shape = record { shape = r; above = [] }; kind = Waiting }) l) new) (sym first_roots) (subst (λ e. HasKeys sources (map (λ r. record { shape = record { shape = r; above = [] }; kind = Waiting }) (rs ++ root ∷ [])) e) (sym (inserted ∙ ap (insert_entry key_cmp es key) size)) pushed)
+        subst (λ l. HasKeys sources (map (λ r. record { shape = record { shape = r; above = [] }; kind = Waiting })
+        l) new) (sym first_roots) (subst
+        (λ e. HasKeys sources (map (λ r. record { shape = record { shape = r; above = [] }; kind = Waiting })
+        (rs ++ root ∷ [])) e) (sym (inserted ∙ ap (insert_entry key_cmp es key) size)) pushed)
 
   pub started : (i : ℕ) (list : List Member) (es : List (StampKey × ℕ)) → length sources.lots ≤ i
       → list ≡ roots_up sources.lots i → HasKeys sources (root_sites_up sources.lots i) es → IsAfter sources 0 list es
   started i list es end is has =
       let whole = take-all sources.lots i end in
-      let all = ends.start-all (derivation_of sources) (sources_are_derivations sources differ) (λ k. k.mode) chain_of_key key_cmp (agrees sources.mode) es (subst (λ l. HasKeys sources (map (λ r. record { shape = record { shape = r; above = [] }; kind = Waiting }) (roots_of l)) es) whole has) in
+      let all = ends.start-all (derivation_of sources) (sources_are_derivations sources differ) (λ k. k.mode)
+      chain_of_key key_cmp (agrees sources.mode) es
+      (subst (λ l. HasKeys sources (map (λ r. record { shape = record { shape = r; above = [] }; kind = Waiting }) (roots_of l)) es) whole has) in
       subst (λ l. IsAfter sources 0 l es) (sym (is ∙ ap (λ l. map (λ r. record { shape = r; kind = Waiting }) (roots_of l)) whole)) all

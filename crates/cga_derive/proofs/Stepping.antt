@@ -86,7 +86,9 @@ module _ (sources : Sources) (differ : NamesDiffer sources.lots) where
           answers = (asks ∙ ap (λ (m : Member). asked d list m.shape) same) i;
           outcome = final i;
         } in
-        subst (λ l. (m : Member) × (next_of d l ≡ Some m) × (record { lot = key.lot; path = key.path; symbol = own; answers = answers; outcome = outcome } ≡ traced sources l m.shape)) turn.list_is (x.0, is_next, step)
+        subst (λ l. (m : Member) × (next_of d l ≡ Some m)
+        × (record { lot = key.lot; path = key.path; symbol = own; answers = answers; outcome = outcome }
+        ≡ traced sources l m.shape)) turn.list_is (x.0, is_next, step)
 
 module _ (sources : Sources) (n : ℕ) (list : List Member) (es : List (StampKey × ℕ)) (at : IsAfter sources n list es) where
   none-waits : (e : List (StampKey × ℕ)) → IsAfter sources n list e → e ≡ [] → NothingWaits (derivation_of sources) list

@@ -80,7 +80,9 @@ module _ (sources : Sources) (differ : NamesDiffer sources.lots) where
     unfolding children_of
     result y answers r is asks gives =
         let same : y ≡ there.0 = is ∙ read list place there.0 y there.1 in
-        ap (placed_by there.0.shape) (sym (gives ∙ ((λ i. expand_of sources.grammar y.shape (asks i)) ∙ ap (λ (m : Member). expand_of sources.grammar m.shape (asked (derivation_of sources) list m.shape)) same)))
+        ap (placed_by there.0.shape) (sym
+        (gives ∙ ((λ i. expand_of sources.grammar y.shape (asks i))
+        ∙ ap (λ (m : Member). expand_of sources.grammar m.shape (asked (derivation_of sources) list m.shape)) same)))
 
     pub working-fault : (x y : Member) (answers : Answers) (r : Result (List Emitted) ShapeFault) (f : ShapeFault)
         → x ≡ get_or list place x → y ≡ get_or list place y → answers ≡ asked (derivation_of sources) list y.shape
@@ -88,7 +90,9 @@ module _ (sources : Sources) (differ : NamesDiffer sources.lots) where
         → IsAfter sources (suc n) (slice_set list place (record { shape = x.shape; kind = Faulted f })) es
     working-fault x y answers r f here is asks gives fault =
         let same : there.0 ≡ x = sym (here ∙ read list place there.0 x there.1) in
-        let removed = turns.turn-fault (derivation_of sources) (sources_are_derivations sources differ) (λ k. k.mode) chain_of_key key_cmp (agrees sources.mode) n key place list es turn there.0 there.1 f (result y answers r is asks gives ∙ ap (placed_by there.0.shape) fault) in
+        let removed = turns.turn-fault (derivation_of sources) (sources_are_derivations sources differ)
+        (λ k. k.mode) chain_of_key key_cmp (agrees sources.mode) n key place list es turn there.0 there.1 f
+        (result y answers r is asks gives ∙ ap (placed_by there.0.shape) fault) in
         subst (λ (m : Member). IsAfter sources (suc n) (slice_set list place (record { shape = m.shape; kind = Faulted f })) es) same removed
 
     pub working-done : (x y : Member) (answers : Answers) (r : Result (List Emitted) ShapeFault)
@@ -103,22 +107,29 @@ module _ (sources : Sources) (differ : NamesDiffer sources.lots) where
         let same_y : y ≡ there.0 = is ∙ read list place there.0 y there.1 in
         let cs = placed_from there.0.shape.lot there.0.shape.path there.0.shape.symbol 0 emitted in
         let children : placed_from key.lot key.path y.shape.symbol 0 emitted ≡ cs = λ i. placed_from (there.3 i) (there.4 i) (same_y i).shape.symbol 0 emitted in
-        let removed = turns.turn-done (derivation_of sources) (sources_are_derivations sources differ) (λ k. k.mode) chain_of_key key_cmp (agrees sources.mode) n key place list es turn there.0 there.1 cs (result y answers r is asks gives ∙ ap (placed_by there.0.shape) done) in
+        let removed = turns.turn-done (derivation_of sources) (sources_are_derivations sources differ)
+        (λ k. k.mode) chain_of_key key_cmp (agrees sources.mode) n key place list es turn there.0 there.1 cs
+        (result y answers r is asks gives ∙ ap (placed_by there.0.shape) done) in
         let mode = turns.mode_is (derivation_of sources) (sources_are_derivations sources differ) (λ k. k.mode) chain_of_key key_cmp (agrees sources.mode) n key place list es turn in
         let size = removed.1 ∙ sym (length-set list place (record { shape = x.shape; kind = Done })) in
-        let kept = subst (λ l. (C : Sites) → key.mode ≡ sources.mode → length C ≡ length (slice_set list place (record { shape = x.shape; kind = Done })) → SitesApart (derivation_of sources) (C ++ map (sited key.priorities) l) → HasKeys sources C es → HasKeys sources (C ++ map (sited key.priorities) l) new_es) children keeps in
+        let kept = subst (λ l. (C : Sites) → key.mode ≡ sources.mode
+        → length C ≡ length (slice_set list place (record { shape = x.shape; kind = Done }))
+        → SitesApart (derivation_of sources) (C ++ map (sited key.priorities) l) → HasKeys sources C es
+        → HasKeys sources (C ++ map (sited key.priorities) l) new_es) children keeps in
         let ended = removed.4 new_es (kept removed.0 mode size removed.3 removed.2) in
         subst (λ l. IsAfter sources (suc n) l new_es) (sym (created ∙ (λ i. slice_set list place (record { shape = (same_x i).shape; kind = Done }) ++ children i))) ended
 
   -- a derivation stands in order
   pub stands : (budget : ℕ) (list : List Member) → derive (derivation_of sources) budget ≡ Some list
       → StandsInOrder (derivation_of sources) list
-  stands budget list e = subst (StandsInOrder (derivation_of sources)) (derived-reached (derivation_of sources) budget list e) (in_order (derivation_of sources) (sources_are_derivations sources differ) budget)
+  stands budget list e = subst (StandsInOrder (derivation_of sources))
+      (derived-reached (derivation_of sources) budget list e) (in_order (derivation_of sources) (sources_are_derivations sources differ) budget)
 
   -- and its shapes were expanded by rising stamps
   pub rises_to : (budget : ℕ) (list : List Member) → derive (derivation_of sources) budget ≡ Some list
       → RisesIn (derivation_of sources) list (expanded (derivation_of sources) budget)
-  rises_to budget list e = subst (λ l. RisesIn (derivation_of sources) l (expanded (derivation_of sources) budget)) (derived-reached (derivation_of sources) budget list e) (rises (derivation_of sources) (sources_are_derivations sources differ) budget)
+  rises_to budget list e = subst (λ l. RisesIn (derivation_of sources) l (expanded (derivation_of sources) budget))
+      (derived-reached (derivation_of sources) budget list e) (rises (derivation_of sources) (sources_are_derivations sources differ) budget)
 
   module _ (budget n : ℕ) (list : List Member) (es : List (StampKey × ℕ)) (at : IsAfter sources n list es) where
     pub over : n ≤ budget → budget < length list → derive (derivation_of sources) budget ≡ None
@@ -127,4 +138,5 @@ module _ (sources : Sources) (differ : NamesDiffer sources.lots) where
     pub ended-full : n ≡ budget → length list ≤ budget
         → (derive (derivation_of sources) budget ≡ Some list)
         × (expanded_in list ≡ count_by (λ m. not (is_instance m.kind)) list)
-    ended-full same fits = turns.ends-full (derivation_of sources) (sources_are_derivations sources differ) (λ k. k.mode) chain_of_key key_cmp (agrees sources.mode) budget list es (subst (λ k. IsAfter sources k list es) same at) fits
+    ended-full same fits = turns.ends-full (derivation_of sources) (sources_are_derivations sources differ)
+        (λ k. k.mode) chain_of_key key_cmp (agrees sources.mode) budget list es (subst (λ k. IsAfter sources k list es) same at) fits

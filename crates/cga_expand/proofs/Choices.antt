@@ -97,7 +97,9 @@ one_more : (attributes : List Attribute) (shape : Shape) (answers : Answers) (fo
 one_more attributes shape answers found true e es = refl
 one_more attributes shape answers found false e es = refl
 
-module _ (attributes : List Attribute) (shape : Shape) (answers : Answers) (symbol : List ℕ) (found : Found) (xs : List Entry) (i : ℕ) (item : Entry) (w : Found) (lt : i < length xs) (at : item ≡ get_or xs i item) (h : tried_all attributes shape answers found (rules_of (drop i xs) symbol) ≡ w) where
+module _ (attributes : List Attribute) (shape : Shape) (answers : Answers) (symbol : List ℕ) (found : Found)
+    (xs : List Entry) (i : ℕ) (item : Entry) (w : Found) (lt : i < length xs) (at : item ≡ get_or xs i item)
+    (h : tried_all attributes shape answers found (rules_of (drop i xs) symbol) ≡ w) where
   here : tried_all attributes shape answers
       (if is_of symbol item then tried attributes shape answers found item.rule else found)
       (rules_of (drop (i + 1) xs) symbol) ≡ w
@@ -111,12 +113,14 @@ module _ (attributes : List Attribute) (shape : Shape) (answers : Answers) (symb
   pub tried_in : (more : Found) → is_of symbol item ≡ true → more ≡ tried attributes shape answers found item.rule
       → tried_all attributes shape answers more (rules_of (drop (i + 1) xs) symbol) ≡ w
   tried_in more e is =
-      ap (λ (z : Found). tried_all attributes shape answers z (rules_of (drop (i + 1) xs) symbol)) (is ∙ ap (λ (b : Bool). if b then tried attributes shape answers found item.rule else found) (sym e)) ∙ here
+      ap (λ (z : Found). tried_all attributes shape answers z (rules_of (drop (i + 1) xs) symbol))
+      (is ∙ ap (λ (b : Bool). if b then tried attributes shape answers found item.rule else found) (sym e)) ∙ here
 
   pub tried_out : (more : Found) → is_of symbol item ≡ false → more ≡ found
       → tried_all attributes shape answers more (rules_of (drop (i + 1) xs) symbol) ≡ w
   tried_out more e is =
-      ap (λ (z : Found). tried_all attributes shape answers z (rules_of (drop (i + 1) xs) symbol)) (is ∙ ap (λ (b : Bool). if b then tried attributes shape answers found item.rule else found) (sym e)) ∙ here
+      ap (λ (z : Found). tried_all attributes shape answers z (rules_of (drop (i + 1) xs) symbol))
+      (is ∙ ap (λ (b : Bool). if b then tried attributes shape answers found item.rule else found) (sym e)) ∙ here
 
 pub tried_end : (attributes : List Attribute) (shape : Shape) (answers : Answers) (symbol : List ℕ) (found : Found)
     (xs : List Entry) (i : ℕ) (w : Found)

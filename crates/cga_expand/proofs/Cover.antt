@@ -79,10 +79,12 @@ chosen_all : (P : Rule → Type 0) (attributes : List Attribute) (shape : Shape)
     → All P rules → chosen attributes shape answers rules ≡ Ok rule → P rule
 chosen_all P attributes shape answers [] rule all e = cc
 chosen_all P attributes shape answers (x ∷ xs) rule all e =
-    chosen_step P x rule (optional_holds x.cond (known_to attributes shape x) answers) (chosen attributes shape answers xs) (All-head P x xs all) (chosen_all P attributes shape answers xs rule (All-tail P x xs all)) e
+    chosen_step P x rule (optional_holds x.cond (known_to attributes shape x) answers)
+    (chosen attributes shape answers xs) (All-head P x xs all) (chosen_all P attributes shape answers xs rule (All-tail P x xs all)) e
 
 pub alternatives_cover : AlternativesCover
 alternatives_cover grammar valid shape answers rule e =
     let P : Rule → Type 0 = λ (r : Rule). AddUp r.alternatives in
-    let add : AddUp rule.alternatives = chosen_all P grammar.attributes shape answers (rules_by_id grammar shape.symbol) rule (by_id_all P _ (of_symbol P grammar.rules shape.symbol (probabilities_add_up grammar valid))) e in
+    let add : AddUp rule.alternatives = chosen_all P grammar.attributes shape answers
+    (rules_by_id grammar shape.symbol) rule (by_id_all P _ (of_symbol P grammar.rules shape.symbol (probabilities_add_up grammar valid))) e in
     covers (drawn_number shape) 0 rule.alternatives (omega arith) (omega (arith, drawn_small shape, add.sum))

@@ -163,7 +163,8 @@ module _ (s : Shape) (p : Box → Bool) where
   any-from (x ∷ xs) m h off passes = elim h [
     | inl e ↦
         let t : not (on_path x s) ≡ true = ap (λ y. not (on_path y s)) e ∙ off in
-        ap (λ b. list_any p (map (λ m. box_of m.scope) (cond b (x ∷ filter (λ m. not (on_path m s)) xs) (filter (λ m. not (on_path m s)) xs)))) t ∙ or_left _ _ (ap (λ y. p (box_of y.scope)) e ∙ passes)
+        ap (λ b. list_any p (map (λ m. box_of m.scope) (cond b (x ∷ filter (λ m. not (on_path m s)) xs)
+        (filter (λ m. not (on_path m s)) xs)))) t ∙ or_left _ _ (ap (λ y. p (box_of y.scope)) e ∙ passes)
     | inr r ↦
         let rest = any-from xs m r off passes in
         elim (not (on_path x s)) as (λ b. list_any p (map (λ m. box_of m.scope) (cond b (x ∷ filter (λ m. not (on_path m s)) xs) (filter (λ m. not (on_path m s)) xs))) ≡ true) [

@@ -129,7 +129,9 @@ module _ (k : Known) (others : List Attribute) (answers : Answers) where
   test_case (Compare left relation right) h =
       let l : value.Meaning = value.expr_value left in
       let r : value.Meaning = value.expr_value right in
-      then_same k others (l k) (l (with_others k others)) (λ x. and_then (r k) (λ y. Ok (holds.relates relation (rat_cmp x y)))) (λ x. and_then (r (with_others k others)) (λ y. Ok (holds.relates relation (rat_cmp x y))))
+      then_same k others (l k) (l (with_others k others))
+      (λ x. and_then (r k) (λ y. Ok (holds.relates relation (rat_cmp x y))))
+      (λ x. and_then (r (with_others k others)) (λ y. Ok (holds.relates relation (rat_cmp x y))))
       (expr_reads k others left (agrees_left k others (used.expr_uses left) _ h))
       (λ x. ap (λ o. and_then o (λ y. Ok (holds.relates relation (rat_cmp x y)))) (expr_reads k others right (agrees_right k others (used.expr_uses left) _ h)))
 

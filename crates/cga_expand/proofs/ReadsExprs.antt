@@ -137,7 +137,8 @@ module _ (k : Known) (others : List Attribute) where
       let ms : List value.Marked = map value.scaled_value (map (λ e. e.0) ts) in
       then_same (m.1 k) (m.1 (with_others k others)) (λ y. and_then (scaled m.0 x y) (value.from_left scaled ms k)) (λ y. and_then (scaled m.0 x y) (value.from_left scaled ms (with_others k others)))
       (t.1 (agrees_left (used.scaled_uses t.0) _ h))
-      (λ y. then_same (scaled m.0 x y) (scaled m.0 x y) (value.from_left scaled ms k) (value.from_left scaled ms (with_others k others)) refl (products_same ts (agrees_right (used.scaled_uses t.0) _ h)))
+      (λ y. then_same (scaled m.0 x y) (scaled m.0 x y) (value.from_left scaled ms k)
+      (value.from_left scaled ms (with_others k others)) refl (products_same ts (agrees_right (used.scaled_uses t.0) _ h)))
 
   primary_case : (y : Primary-F SomePrimary SomeAdded SomeExpr SomeFactor SomeScaled SomeTerm)
       → Same (value.primary_step (primary_meant (primary_parts y))) (used.primary_step (primary_used (primary_parts y)))
@@ -228,5 +229,9 @@ module _ (k : Known) (others : List Attribute) where
 
   pub expr_reads : (e : Expr) → Same (value.expr_value e) (used.expr_uses e)
   expr_reads =
-      ind-Expr (λ x. Same (value.primary_value x) (used.primary_uses x)) (λ x. SameMarked (value.added_value x) (used.added_uses x)) (λ x. Same (value.expr_value x) (used.expr_uses x)) (λ x. Same (value.factor_value x) (used.factor_uses x)) (λ x. SameMarked (value.scaled_value x) (used.scaled_uses x)) (λ x. Same (value.term_value x) (used.term_uses x))
+      ind-Expr (λ x. Same (value.primary_value x) (used.primary_uses x))
+      (λ x. SameMarked (value.added_value x) (used.added_uses x))
+      (λ x. Same (value.expr_value x) (used.expr_uses x))
+      (λ x. Same (value.factor_value x) (used.factor_uses x))
+      (λ x. SameMarked (value.scaled_value x) (used.scaled_uses x)) (λ x. Same (value.term_value x) (used.term_uses x))
       primary_step added_step expr_step factor_step scaled_step term_step

@@ -82,7 +82,8 @@ module _ {N A F P : Type 0} (derivation : Derivation N A F P) (laws : IsDerivati
           let i = Has-index (reached derivation n) m.shape m.kind here in
           let there : slice_get (reached derivation n) i.0 ≡ Some m = i.2 ∙ (λ t. Some (record { shape = i.3 t; kind = i.4 t })) in
           let turn : HadTurn m.shape = (asked derivation (reached derivation n) m.shape, (n, m, e, refl, refl)) in
-          told_turned (reached derivation n) i.0 m (outcome derivation (reached derivation n) m.shape) turn (λ j. become-set derivation (reached derivation n) i.0 m j (apart-reached derivation laws n) there) before refl x k g plain
+          told_turned (reached derivation n) i.0 m (outcome derivation (reached derivation n) m.shape) turn
+          (λ j. become-set derivation (reached derivation n) i.0 m j (apart-reached derivation laws n) there) before refl x k g plain
 
   had_turn : (n : ℕ) → NothingWaits derivation (reached derivation n) → (x : N) (k : Kind F P)
       → Has (reached derivation n) x k → is_instance k ≡ false → HadTurn x

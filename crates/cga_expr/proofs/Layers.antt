@@ -63,33 +63,41 @@ factor_layer f = at_known (fold_out-Factor Meaning Marked Meaning Meaning Marked
 
 pub primary_Number : (n : Rat) (k : Known) → primary_value (Number n) k ≡ Ok n
 unfolding primary_value expr_value
-primary_Number n = at_known (ap primary_value (sym (rolls-Number n)) ∙ fold-roll-Primary Meaning Marked Meaning Meaning Marked Meaning primary_step added_step expr_step factor_step scaled_step term_step (layer.Number n))
+primary_Number n = at_known (ap primary_value (sym (rolls-Number n)) ∙ fold-roll-Primary Meaning Marked Meaning
+    Meaning Marked Meaning primary_step added_step expr_step factor_step scaled_step term_step (layer.Number n))
 
 -- a name comes to the number that it stands for
 pub primary_Named : (name : List ℕ) (k : Known) → primary_value (Named name) k ≡ Ok (number_of k name)
 unfolding primary_value expr_value
-primary_Named name = at_known (ap primary_value (sym (rolls-Named name)) ∙ fold-roll-Primary Meaning Marked Meaning Meaning Marked Meaning primary_step added_step expr_step factor_step scaled_step term_step (layer.Named name))
+primary_Named name = at_known (ap primary_value (sym (rolls-Named name)) ∙ fold-roll-Primary Meaning Marked Meaning
+    Meaning Marked Meaning primary_step added_step expr_step factor_step scaled_step term_step (layer.Named name))
 
 pub primary_ScopeSize : (axis : Axis) (k : Known) → primary_value (ScopeSize axis) k ≡ Ok (coordinate k.size axis)
 unfolding primary_value expr_value
-primary_ScopeSize axis = at_known (ap primary_value (sym (rolls-ScopeSize axis)) ∙ fold-roll-Primary Meaning Marked Meaning Meaning Marked Meaning primary_step added_step expr_step factor_step scaled_step term_step (layer.ScopeSize axis))
+primary_ScopeSize axis = at_known (ap primary_value (sym (rolls-ScopeSize axis)) ∙ fold-roll-Primary Meaning Marked
+    Meaning Meaning Marked Meaning primary_step added_step expr_step factor_step scaled_step term_step (layer.ScopeSize axis))
 
 pub primary_Group : (e : Expr) (k : Known) → primary_value (Group e) k ≡ expr_value e k
 unfolding primary_value expr_value
-primary_Group e = at_known (ap primary_value (sym (rolls-Group e)) ∙ fold-roll-Primary Meaning Marked Meaning Meaning Marked Meaning primary_step added_step expr_step factor_step scaled_step term_step (layer.Group e))
+primary_Group e = at_known (ap primary_value (sym (rolls-Group e)) ∙ fold-roll-Primary Meaning Marked Meaning
+    Meaning Marked Meaning primary_step added_step expr_step factor_step scaled_step term_step (layer.Group e))
 
 pub primary_Floor : (e : Expr) (k : Known) → primary_value (Floor e) k ≡ and_then (expr_value e k) floored
 unfolding primary_value expr_value
-primary_Floor e = at_known (ap primary_value (sym (rolls-Floor e)) ∙ fold-roll-Primary Meaning Marked Meaning Meaning Marked Meaning primary_step added_step expr_step factor_step scaled_step term_step (layer.Floor e))
+primary_Floor e = at_known (ap primary_value (sym (rolls-Floor e)) ∙ fold-roll-Primary Meaning Marked Meaning
+    Meaning Marked Meaning primary_step added_step expr_step factor_step scaled_step term_step (layer.Floor e))
 
 pub primary_Ceil : (e : Expr) (k : Known) → primary_value (Ceil e) k ≡ and_then (expr_value e k) ceiled
 unfolding primary_value expr_value
-primary_Ceil e = at_known (ap primary_value (sym (rolls-Ceil e)) ∙ fold-roll-Primary Meaning Marked Meaning Meaning Marked Meaning primary_step added_step expr_step factor_step scaled_step term_step (layer.Ceil e))
+primary_Ceil e = at_known (ap primary_value (sym (rolls-Ceil e)) ∙ fold-roll-Primary Meaning Marked Meaning Meaning
+    Marked Meaning primary_step added_step expr_step factor_step scaled_step term_step (layer.Ceil e))
 
 pub primary_Rand : (number : ℕ) (low : Expr) (high : Expr) (steps : ℕ) (k : Known)
     → primary_value (Rand number low high steps) k ≡ random_value (expr_value low) (expr_value high) number steps k
 unfolding primary_value expr_value
-primary_Rand number low high steps = at_known (ap primary_value (sym (rolls-Rand number low high steps)) ∙ fold-roll-Primary Meaning Marked Meaning Meaning Marked Meaning primary_step added_step expr_step factor_step scaled_step term_step (layer.Rand number low high steps))
+primary_Rand number low high steps = at_known (ap primary_value (sym (rolls-Rand number low high steps))
+    ∙ fold-roll-Primary Meaning Marked Meaning Meaning Marked Meaning primary_step added_step expr_step factor_step
+    scaled_step term_step (layer.Rand number low high steps))
 
 pub cond_layer : (c : Cond) (k : Known) (a : Answers)
     → cond_holds c k a ≡ any_holds (map conj_holds (out-Cond c).conjs) k a
@@ -119,6 +127,26 @@ test_Occ target equal state = at_both (ap test_holds (sym (test.rolls-Occ target
 pub test_Compare : (left : Expr) (relation : Relation) (right : Expr) (k : Known) (a : Answers)
     → test_holds (test.Compare left relation right) k a ≡ compared (expr_value left) relation (expr_value right) k
 unfolding test_holds cond_holds
-test_Compare left relation right = at_both (ap test_holds (sym (test.rolls-Compare left relation right)) ∙ fold-roll-Test Holding Holding Holding test_step cond_step conj_step (part.Compare left relation right))
+test_Compare left relation right = at_both (ap test_holds (sym (test.rolls-Compare left relation right))
+    ∙ fold-roll-Test Holding Holding Holding test_step cond_step conj_step (part.Compare left relation right))
 
-pub ruleset layers = (expr_layer, term_layer, factor_layer, added_layer, scaled_layer, primary_Number, primary_Named, primary_ScopeSize, primary_Group, primary_Floor, primary_Ceil, primary_Rand, cond_layer, conj_layer, test_Group, test_Not, test_Occ, test_Compare)
+pub ruleset layers = (
+  expr_layer,
+  term_layer,
+  factor_layer,
+  added_layer,
+  scaled_layer,
+  primary_Number,
+  primary_Named,
+  primary_ScopeSize,
+  primary_Group,
+  primary_Floor,
+  primary_Ceil,
+  primary_Rand,
+  cond_layer,
+  conj_layer,
+  test_Group,
+  test_Not,
+  test_Occ,
+  test_Compare,
+)

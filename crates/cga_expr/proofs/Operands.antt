@@ -8,7 +8,8 @@ use Rattle.cga_expr.specs.Names.{Known}
 use Rattle.cga_expr.specs.Arithmetic.{Computed}
 use Rattle.cga_expr.specs.Value.{Marked, Meaning, from_left}
 
-module _ {X : Type 0} (by : Bool → Rat → Rat → Computed) (mark : X → Marked) (k : Known) (xs : List X) (i : ℕ) (item : X) (x : Rat) (lt : i < length xs) (at : item ≡ get_or xs i item) (sign : Bool) (part : Meaning) (is : mark item ≡ (sign, part)) where
+module _ {X : Type 0} (by : Bool → Rat → Rat → Computed) (mark : X → Marked) (k : Known) (xs : List X) (i : ℕ)
+    (item : X) (x : Rat) (lt : i < length xs) (at : item ≡ get_or xs i item) (sign : Bool) (part : Meaning) (is : mark item ≡ (sign, part)) where
   turn : from_left by (map mark (drop i xs)) k x ≡ and_then (part k)
       (λ y. and_then (by sign x y) (from_left by (map mark (drop (i + 1) xs)) k))
   turn =

@@ -26,4 +26,6 @@ one_fault (Ok a) = refl
 one_fault (Err e) = refl
 
 pub whole_is : (z : ℤ) → or_fault (quotient_of (of_int z) (of_int (pos 1))) ≡ exact (of_int z)
-whole_is z = ap or_fault (sym (by_positive z 0 (checked (reduced z 1)) (or_err division.Overflow (checked (reduced z 1))) refl refl)) ∙ one_fault (checked (reduced z 1)) ∙ ap (λ a. or_err fault.Overflow (checked a)) (reduced-one z)
+whole_is z = ap or_fault (sym (by_positive z 0 (checked (reduced z 1))
+    (or_err division.Overflow (checked (reduced z 1))) refl refl)) ∙ one_fault (checked (reduced z 1))
+    ∙ ap (λ a. or_err fault.Overflow (checked a)) (reduced-one z)

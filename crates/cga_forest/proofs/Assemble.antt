@@ -22,7 +22,8 @@ some_flag false s = refl
 some_flag true None = refl
 some_flag true (Some e) = refl
 
-module _ (s0 s1 : ℕ → Option SlotEntry) (id : ℕ) (e : Seen) (was : present_of (s0 id) ≡ Some e) (tree : IsTree (λ c. present_of (s0 c))) (gone : ℕ → Bool) (dropped : (c : ℕ) → s1 c ≡ flag_if (gone c) (s0 c)) where
+module _ (s0 s1 : ℕ → Option SlotEntry) (id : ℕ) (e : Seen) (was : present_of (s0 id) ≡ Some e)
+    (tree : IsTree (λ c. present_of (s0 c))) (gone : ℕ → Bool) (dropped : (c : ℕ) → s1 c ≡ flag_if (gone c) (s0 c)) where
   pub dropped_kids : kids (s1 id) ≡ e.children
   dropped_kids = ap kids (dropped id) ∙ kids_flag (gone id) (s0 id) ∙ kids_present (s0 id) e was
 
@@ -57,7 +58,9 @@ module _ (s0 s1 s2 s3 : ℕ → Option SlotEntry) (id depth n : ℕ) (marking : 
   gone_slots c = goes (λ d. kids (s0 d)) n (λ k w. stay_of (s0 k) w) (kids (s0 id)) news (length (kids (s0 id))) c
 
   pub assembled_slots : IsReplaced fits (λ c. present_of (s0 c)) (λ c. present_of (s3 c)) id news e (record e { node = with_state state e.node; children = made }) gone_slots
-  assembled_slots = subst (λ (xs : List ℕ). IsReplaced fits (λ c. present_of (s0 c)) (λ c. present_of (s3 c)) id news e (record e { node = with_state state e.node; children = made }) (λ c. goes (λ d. kids (s0 d)) n (λ k w. stay_of (s0 k) w) xs news (length xs) c)) (sym (kids_present (s0 id) e was)) assembled
+  assembled_slots = subst (λ (xs : List ℕ). IsReplaced fits (λ c. present_of (s0 c)) (λ c. present_of (s3 c)) id
+      news e (record e { node = with_state state e.node; children = made })
+      (λ c. goes (λ d. kids (s0 d)) n (λ k w. stay_of (s0 k) w) xs news (length xs) c)) (sym (kids_present (s0 id) e was)) assembled
 
   -- the node itself isn't set aside
   pub still_here : s2 id ≡ s0 id

@@ -88,7 +88,8 @@ covered_added S roots left H J us vs xs ys n id gap is a place c h at e = elim (
     | inr nl ↦ (
         let k = ids_at left place c at in
         let long = length_push roots (n, id) in
-        let still = swap_kept (roots ++ (n, id) ∷ []) gap (length roots) place (k.0, c) (omega (arith, is.low, long)) (omega (arith, long)) ng nl (subst (λ (l : Named). slice_get l place ≡ Some (k.0, c)) is.pushed k.1) in
+        let still = swap_kept (roots ++ (n, id) ∷ []) gap (length roots) place (k.0, c)
+        (omega (arith, is.low, long)) (omega (arith, long)) ng nl (subst (λ (l : Named). slice_get l place ≡ Some (k.0, c)) is.pushed k.1) in
         elim (pushed_ids roots n id place c (at_ids (roots ++ (n, id) ∷ []) place c k.0 still)) [
           | inl w ↦ (
               let m = ids_at roots place c w in

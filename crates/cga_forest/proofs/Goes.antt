@@ -85,7 +85,8 @@ module _ (s0 s1 s2 s3 : ℕ → Option SlotEntry) (id depth n : ℕ) (marking : 
   stay c h = elim (bool_cases (gone c)) [ inl y ↦ absurd (h y) | inr ne ↦ ne ]
 
   self_stays : gone id ≡ false
-  self_stays = stay id (λ g. let w = gone_deep id g in let q = same_seen (λ d. present_of (s0 d)) id id w.0 e w.1 was refl in let z : w.0.depth ≡ e.depth = ap (λ (x : Seen). x.depth) q in let lt = w.2 in omega arith)
+  self_stays = stay id (λ g. let w = gone_deep id g in let q = same_seen (λ d. present_of (s0 d)) id id w.0 e w.1
+      was refl in let z : w.0.depth ≡ e.depth = ap (λ (x : Seen). x.depth) q in let lt = w.2 in omega arith)
 
   none_stays : (c : ℕ) → present_of (s0 c) ≡ None → gone c ≡ false
   none_stays c t = stay c (λ g. let w = gone_deep c g in let z : None ≡ Some w.0 = sym t ∙ w.1 in absurd (cc))
@@ -202,7 +203,8 @@ module _ (s0 s1 s2 s3 : ℕ → Option SlotEntry) (id depth n : ℕ) (marking : 
     );
     fate = λ i c d o t. fate_slot i c o ∙ ap not (stay_seen (s0 c) d (slice_get news i) t);
     stays = stays_at;
-    tops = λ c d t top. stay c (λ g. let w = gone_deep c g in let q = same_seen (λ x. present_of (s0 x)) c c w.0 d w.1 t refl in let z : w.0.depth ≡ d.depth = ap (λ (x : Seen). x.depth) q in let lt = w.2 in let a = tree.at_root c d t top in omega arith);
+    tops = λ c d t top. stay c (λ g. let w = gone_deep c g in let q = same_seen (λ x. present_of (s0 x)) c c w.0 d
+        w.1 t refl in let z : w.0.depth ≡ d.depth = ap (λ (x : Seen). x.depth) q in let lt = w.2 in let a = tree.at_root c d t top in omega arith);
     into = λ c p d t par g ne.
         let f = find c g in
         let r = tree.down id f.0 f.1 e was f.2 in
@@ -233,7 +235,10 @@ module _ (s0 s1 s2 s3 : ℕ → Option SlotEntry) (id depth n : ℕ) (marking : 
 
     leaf_right : (c : ℕ) (d : Seen) (x : SlotEntry) (w : Node) → hulls_of (s3 c) ≡ Some (hulls_known x.node x.hulls)
         → hulls_known x.node x.hulls ≡ own_hulls w → d.node ≡ w → d.children ≡ [] → IsRight (λ k. hulls_of (s3 k)) c d
-    leaf_right c d x w h o dn leaf = right_exact (λ k. hulls_of (s3 k)) c d (h ∙ ap (λ h. Some h) (o ∙ ap own_hulls (sym dn) ∙ sym (over_zero (λ k. hulls_of (s3 k)) (own_hulls d.node) d.children) ∙ ap (λ xs. over (λ k. hulls_of (s3 k)) (own_hulls d.node) d.children (length xs)) (sym leaf)))
+    leaf_right c d x w h o dn leaf = right_exact (λ k. hulls_of (s3 k)) c d
+        (h ∙ ap (λ h. Some h) (o ∙ ap own_hulls (sym dn)
+        ∙ sym (over_zero (λ k. hulls_of (s3 k)) (own_hulls d.node) d.children)
+        ∙ ap (λ xs. over (λ k. hulls_of (s3 k)) (own_hulls d.node) d.children (length xs)) (sym leaf)))
 
     new_right : (i c : ℕ) (d : Seen) (w : Node) → present_of (s3 c) ≡ Some d → s1 c ≡ None
         → IsNewEntry (s2 c) (Some id) w depth i marking → IsRight (λ k. hulls_of (s3 k)) c d
@@ -241,22 +246,25 @@ module _ (s0 s1 s2 s3 : ℕ → Option SlotEntry) (id depth n : ℕ) (marking : 
         let k = new_child i c w h v in
         let z : Some k.seen ≡ Some d = sym k.here ∙ t in
         let q : k.seen ≡ d = (cc) in
-        leaf_right c d v.entry w (ap hulls_of (others c (not_id c (ap present_of (none_slot c h))) ∙ v.here)) (known_own v.entry w v.node v.hulls) (ap (λ (x : Seen). x.node) (sym q) ∙ k.node) (ap (λ (x : Seen). x.children) (sym q) ∙ k.leaf)
+        leaf_right c d v.entry w (ap hulls_of (others c (not_id c (ap present_of (none_slot c h))) ∙ v.here))
+        (known_own v.entry w v.node v.hulls) (ap (λ (x : Seen). x.node) (sym q) ∙ k.node) (ap (λ (x : Seen). x.children) (sym q) ∙ k.leaf)
 
     old_same : (c : ℕ) (d u : Seen) → present_of (s0 c) ≡ Some u → present_of (s3 c) ≡ Some d → c ≢ id → (i : ℕ)
         → slice_get e.children i ≡ Some c → present_of (s0 c) ≡ Some d
     old_same c d u t now ne i o = let w = present_some (s0 c) u t in let r = cut_some (gone c) (present_of (s0 c)) d (sym (rest_of c w.0 ne w.1) ∙ now) in r.1
 
     pub right_but : RightBut (λ c. present_of (s3 c)) (λ c. hulls_of (s3 c)) id
-    right_but c d ne t = elim (old_or_new (λ x. present_of (s0 x)) (λ x. present_of (s3 x)) id news e (record e { node = with_state state e.node; children = made }) gone replaced tree c d t ne (present_of (s0 c)) refl) [
-      | inl o ↦ right_same (λ x. present_of (s0 x)) (λ x. hulls_of (s0 x)) (λ x. hulls_of (s3 x)) hulls_kept tree c d o.1 (right c d o.1)
-      | inr w ↦ (let p = placed.each w.0 c w.2 in elim p.2 [
-        | inl old ↦ (
-            let u = tree.down id w.0 c e was old.0 in
-            right_same (λ x. present_of (s0 x)) (λ x. hulls_of (s0 x)) (λ x. hulls_of (s3 x)) hulls_kept tree c d (old_same c d u.0 u.1 t ne w.0 old.0) (right c d (old_same c d u.0 u.1 t ne w.0 old.0)))
-        | inr new ↦ new_right w.0 c d p.0 t new.0 new.1
-      ])
-    ]
+    right_but c d ne t = elim (old_or_new (λ x. present_of (s0 x)) (λ x. present_of (s3 x)) id news e
+        (record e { node = with_state state e.node; children = made }) gone replaced tree c d t ne (present_of (s0 c)) refl) [
+          | inl o ↦ right_same (λ x. present_of (s0 x)) (λ x. hulls_of (s0 x)) (λ x. hulls_of (s3 x)) hulls_kept tree c d o.1 (right c d o.1)
+          | inr w ↦ (let p = placed.each w.0 c w.2 in elim p.2 [
+            | inl old ↦ (
+                let u = tree.down id w.0 c e was old.0 in
+                right_same (λ x. present_of (s0 x)) (λ x. hulls_of (s0 x)) (λ x. hulls_of (s3 x)) hulls_kept tree c d
+                (old_same c d u.0 u.1 t ne w.0 old.0) (right c d (old_same c d u.0 u.1 t ne w.0 old.0)))
+            | inr new ↦ new_right w.0 c d p.0 t new.0 new.1
+          ])
+        ]
 
   -- ---- the mark
 
@@ -290,12 +298,16 @@ module _ (s0 s1 s2 s3 : ℕ → Option SlotEntry) (id depth n : ℕ) (marking : 
 
     pub mark_kept : (c : ℕ) → marked_of (s3 c) ≡ marked_of (s0 c)
     mark_kept c = elim (nat_cases c id) [
-      | inl q ↦ ap (λ x. marked_of (s3 x)) q ∙ marked ∙ placed_mark marked_of marked_flag refl (λ x h. ap (λ b. if b then None else Some (seen (restored x x.former))) h) id (s0 id) refl ∙ sym (ap (λ x. marked_of (s0 x)) q)
+      | inl q ↦ ap (λ x. marked_of (s3 x)) q ∙ marked ∙ placed_mark marked_of marked_flag refl
+          (λ x h. ap (λ b. if b then None else Some (seen (restored x x.former))) h) id (s0 id) refl ∙ sym (ap (λ x. marked_of (s0 x)) q)
       | inr ne ↦ ap marked_of (others c ne) ∙ placed_mark marked_of marked_flag refl (λ x h. ap (λ b. if b then None else Some (seen (restored x x.former))) h) c (s0 c) refl
     ]
 
     pub mark_hulls_kept : (c : ℕ) → marked_hulls_of (s3 c) ≡ marked_hulls_of (s0 c)
     mark_hulls_kept c = elim (nat_cases c id) [
-      | inl q ↦ ap (λ x. marked_hulls_of (s3 x)) q ∙ marked_hulls ∙ placed_hulls marked_hulls_of marked_hulls_flag refl (λ x h. ap (λ b. if b then None else Some (hulls_known x.node (former_hulls x.hulls x.former_hulls))) h) id (s0 id) refl ∙ sym (ap (λ x. marked_hulls_of (s0 x)) q)
-      | inr ne ↦ ap marked_hulls_of (others c ne) ∙ placed_hulls marked_hulls_of marked_hulls_flag refl (λ x h. ap (λ b. if b then None else Some (hulls_known x.node (former_hulls x.hulls x.former_hulls))) h) c (s0 c) refl
+      | inl q ↦ ap (λ x. marked_hulls_of (s3 x)) q ∙ marked_hulls ∙ placed_hulls marked_hulls_of marked_hulls_flag
+          refl (λ x h. ap (λ b. if b then None else Some
+          (hulls_known x.node (former_hulls x.hulls x.former_hulls))) h) id (s0 id) refl ∙ sym (ap (λ x. marked_hulls_of (s0 x)) q)
+      | inr ne ↦ ap marked_hulls_of (others c ne) ∙ placed_hulls marked_hulls_of marked_hulls_flag refl
+          (λ x h. ap (λ b. if b then None else Some (hulls_known x.node (former_hulls x.hulls x.former_hulls))) h) c (s0 c) refl
     ]

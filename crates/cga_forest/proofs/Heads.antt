@@ -68,7 +68,8 @@ module _ (old dropped placed written : ℕ → Option SlotEntry) (id depth : ℕ
   pub top_written : (c : ℕ) (d : Seen) → present_of (old c) ≡ Some d → d.parent ≡ None
       → above (present_of (written c)) ≡ None
   top_written c d h top = elim (nat_cases c id) [
-    | inl q ↦ ap (λ i. above (present_of (written i))) q ∙ ap above present ∙ above_rewritten state made (present_of (placed id)) (ap (λ i. above (present_of (placed i))) (sym q) ∙ top_placed c d h top)
+    | inl q ↦ ap (λ i. above (present_of (written i))) q ∙ ap above present
+        ∙ above_rewritten state made (present_of (placed id)) (ap (λ i. above (present_of (placed i))) (sym q) ∙ top_placed c d h top)
     | inr n ↦ ap (λ x. above (present_of x)) (others c n) ∙ top_placed c d h top
   ]
 

@@ -108,7 +108,8 @@ module _ (v : ForestView) (f : IsForest v) where
 
     to_child : (n c : ℕ) (d e : Seen) (h : node_at v n ≡ Some d) → Member (children_at v n) c
         → (u : node_at v c ≡ Some e) → probed p (got n d h) ≡ true → probed p (got c e u) ≡ true
-    to_child n c d e h m u on = let w = kid_place n c d h m in over_child p (hulls_at v) (own_hulls d.node) d.children (length d.children) (as_made n d h on) w.0 c (got c e u) (within d.children w.0 c w.1) w.1 (hulls_is c e u)
+    to_child n c d e h m u on = let w = kid_place n c d h m in over_child p (hulls_at v) (own_hulls d.node)
+        d.children (length d.children) (as_made n d h on) w.0 c (got c e u) (within d.children w.0 c w.1) w.1 (hulls_is c e u)
 
   own_holds : (n : ℕ) (d : Seen) → node_at v n ≡ Some d → holds (all_of (hulls_at v n)) (own_of (node_at v n)) ≡ true
   own_holds n d h = rw (hulls_is n d h, h) (to_own (Every (got n d h).all) n d h (holds_itself (got n d h).all))

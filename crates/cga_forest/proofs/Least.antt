@@ -29,7 +29,8 @@ module _ (p : Probe) (T : ℕ → Option Seen) (H : ℕ → Option Hulls) (whole
   below_each (suc n) id c e d h t g on u w =
       let all : probed p (over H (own_hulls e.node) e.children (length e.children)) ≡ true = sym (right_is id e h t g) ∙ on in
       elim (under_cases (λ k. children_of (T k)) n id c u) [
-        | inl s ↦ (let z : Some e ≡ Some d = sym t ∙ ap T s ∙ w in let y : e ≡ d = (cc) in ap (λ (x : Seen). probed p (own_hulls x.node)) (sym y) ∙ over_own p H (own_hulls e.node) e.children (length e.children) all)
+        | inl s ↦ (let z : Some e ≡ Some d = sym t ∙ ap T s ∙ w in let y : e ≡ d = (cc) in
+            ap (λ (x : Seen). probed p (own_hulls x.node)) (sym y) ∙ over_own p H (own_hulls e.node) e.children (length e.children) all)
         | inr v ↦ (
             let at : slice_get e.children v.0 ≡ Some v.1 = ap (λ o. slice_get (children_of o) v.0) (sym t) ∙ v.2 in
             let r = whole.tree.down id v.0 v.1 e t at in

@@ -33,7 +33,9 @@ present_flag true (Some e) = refl
 pub marked_flag : (b : Bool) (s : Option SlotEntry) → marked_of (flag_if b s) ≡ marked_of s
 marked_flag false s = refl
 marked_flag true None = refl
-marked_flag true (Some e) = elim e.former as (λ o. (if e.created then None else Some (seen (restored (record e { aside = true; touched = true }) o))) ≡ (if e.created then None else Some (seen (restored e o)))) [ None ↦ refl | Some f ↦ refl ]
+marked_flag true (Some e) = elim e.former as (λ o.
+    (if e.created then None else Some (seen (restored (record e { aside = true; touched = true }) o)))
+    ≡ (if e.created then None else Some (seen (restored e o)))) [ None ↦ refl | Some f ↦ refl ]
 
 pub present_settled : (s : Option SlotEntry) → present_of (settled s) ≡ present_of s
 present_settled None = refl
@@ -75,7 +77,19 @@ hulls_settled (Some e) d h = elim (bool_cases e.aside) [
 
 pub hulls_rolled : (s : Option SlotEntry) → hulls_of (rolled s) ≡ marked_hulls_of s
 hulls_rolled None = refl
-hulls_rolled (Some e) = elim e.created as (λ b. hulls_of (if b then None else Some (record (restored e e.former) { hulls = former_hulls e.hulls e.former_hulls; aside = false; created = false; touched = false; former = None; former_hulls = None })) ≡ (if b then None else Some (hulls_known e.node (former_hulls e.hulls e.former_hulls)))) [ true ↦ refl | false ↦ ap (λ h. Some h) (known_restored e e.former (former_hulls e.hulls e.former_hulls)) ]
+hulls_rolled (Some e) = elim e.created as (λ b. hulls_of
+    (if b then None else Some (record (restored e e.former) {
+      hulls = former_hulls e.hulls e.former_hulls;
+      aside = false;
+      created = false;
+      touched = false;
+      former = None;
+      former_hulls = None;
+    }))
+    ≡ (if b then None else Some (hulls_known e.node (former_hulls e.hulls e.former_hulls)))) [
+      | true ↦ refl
+      | false ↦ ap (λ h. Some h) (known_restored e e.former (former_hulls e.hulls e.former_hulls))
+    ]
 
 pub marked_hulls_plain : (s : Option SlotEntry) → ((e : SlotEntry) → s ≡ Some e → IsPlain e)
     → marked_hulls_of s ≡ hulls_of s
@@ -99,7 +113,8 @@ IsForest-settled old new h off whole tops same = record {
   unmarked = λ _. same;
   tops = HasRoots-same (node_at old) (node_at new) new.roots (λ c. ap present_of (h c) ∙ present_settled (slot_at old c)) tops;
   marked_tops = λ q. absurd (cc);
-  present = IsWhole-same (node_at old) (node_at new) (hulls_at old) (hulls_at new) (λ c. ap present_of (h c) ∙ present_settled (slot_at old c)) (λ c e t. ap hulls_of (h c) ∙ hulls_settled (slot_at old c) e t) whole;
+  present = IsWhole-same (node_at old) (node_at new) (hulls_at old) (hulls_at new) (λ c. ap present_of (h c)
+      ∙ present_settled (slot_at old c)) (λ c e t. ap hulls_of (h c) ∙ hulls_settled (slot_at old c) e t) whole;
   marked = λ q. absurd (cc);
   plain = λ _ id e t. settled_plain (slot_at old id) e (sym (h id) ∙ t);
 }
@@ -111,7 +126,8 @@ IsForest-rolled old new h off whole tops same = record {
   unmarked = λ _. same;
   tops = HasRoots-same (marked_at old) (node_at new) new.roots (λ c. ap present_of (h c) ∙ present_rolled (slot_at old c)) tops;
   marked_tops = λ q. absurd (cc);
-  present = IsWhole-same (marked_at old) (node_at new) (marked_hulls_at old) (hulls_at new) (λ c. ap present_of (h c) ∙ present_rolled (slot_at old c)) (λ c e t. ap hulls_of (h c) ∙ hulls_rolled (slot_at old c)) whole;
+  present = IsWhole-same (marked_at old) (node_at new) (marked_hulls_at old) (hulls_at new)
+      (λ c. ap present_of (h c) ∙ present_rolled (slot_at old c)) (λ c e t. ap hulls_of (h c) ∙ hulls_rolled (slot_at old c)) whole;
   marked = λ q. absurd (cc);
   plain = λ _ id e t. rolled_plain (slot_at old id) e (sym (h id) ∙ t);
 }
@@ -120,7 +136,8 @@ pub IsForest-begun : (v : ForestView) → v.marking ≡ false → IsForest v →
 IsForest-begun v off f = record {
   unmarked = λ q. absurd (cc);
   present = f.present;
-  marked = λ q. IsWhole-same (node_at v) (marked_at v) (hulls_at v) (marked_hulls_at v) (λ c. marked_plain (slot_at v c) (f.plain off c)) (λ c e t. marked_hulls_plain (slot_at v c) (f.plain off c)) f.present;
+  marked = λ q. IsWhole-same (node_at v) (marked_at v) (hulls_at v) (marked_hulls_at v)
+      (λ c. marked_plain (slot_at v c) (f.plain off c)) (λ c e t. marked_hulls_plain (slot_at v c) (f.plain off c)) f.present;
   tops = f.tops;
   marked_tops = λ q. HasRoots-same (node_at v) (marked_at v) v.marked_roots (λ c. marked_plain (slot_at v c) (f.plain off c)) (subst (HasRoots (node_at v)) (sym (f.unmarked off)) f.tops);
   plain = λ q. absurd (cc);
@@ -154,8 +171,11 @@ pub new_root : (s : Option SlotEntry) (node : Node) (marking : Bool) → IsTop n
 new_root s node marking top made = subst (λ (p : List ℕ). IsNewEntry s None node (length p) (last_from 0 p) marking) top.path made
 
 -- an entry for a new root comes
-module _ (old new : ForestView) (id : ℕ) (node : Node) (fresh : slot_at old id ≡ None) (made : IsNewEntry (slot_at new id) None node 0 0 old.marking) (others : (c : ℕ) → c ≢ id → slot_at new c ≡ slot_at old c)
-    (top : IsTop node) (m : new.marking ≡ old.marking) (pushed : IsPermutation (old.roots ++ (node.shape.lot, id) ∷ []) new.roots) (one_each : AreApart new.roots) (kept : new.marked_roots ≡ (if old.marking then old.marked_roots else new.roots)) (f : IsForest old) where
+module _ (old new : ForestView) (id : ℕ) (node : Node) (fresh : slot_at old id ≡ None)
+    (made : IsNewEntry (slot_at new id) None node 0 0 old.marking) (others : (c : ℕ) → c ≢ id → slot_at new c ≡ slot_at old c)
+    (top : IsTop node) (m : new.marking ≡ old.marking)
+    (pushed : IsPermutation (old.roots ++ (node.shape.lot, id) ∷ []) new.roots) (one_each : AreApart new.roots)
+    (kept : new.marked_roots ≡ (if old.marking then old.marked_roots else new.roots)) (f : IsForest old) where
   pub added_here : node_at new id ≡ Some (seen made.entry)
   added_here = ap present_of made.here ∙ ap (λ b. if b then None else Some (seen made.entry)) made.shows
 
@@ -164,13 +184,17 @@ module _ (old new : ForestView) (id : ℕ) (node : Node) (fresh : slot_at old id
 
   pub added_mark : old.marking ≡ true → (c : ℕ) → marked_at new c ≡ marked_at old c
   added_mark on c = elim (nat_cases c id) [
-    | inl q ↦ ap (marked_at new) q ∙ ap marked_of made.here ∙ ap (λ b. if b then None else Some (seen (restored made.entry made.entry.former))) (made.comes ∙ on) ∙ sym (ap (marked_at old) q ∙ ap marked_of fresh)
+    | inl q ↦ ap (marked_at new) q ∙ ap marked_of made.here
+        ∙ ap (λ b. if b then None else Some (seen (restored made.entry made.entry.former))) (made.comes ∙ on) ∙ sym (ap (marked_at old) q ∙ ap marked_of fresh)
     | inr n ↦ ap marked_of (others c n)
   ]
 
   added_mark_hulls : old.marking ≡ true → (c : ℕ) → marked_hulls_at new c ≡ marked_hulls_at old c
   added_mark_hulls on c = elim (nat_cases c id) [
-    | inl q ↦ ap (marked_hulls_at new) q ∙ ap marked_hulls_of made.here ∙ ap (λ b. if b then None else Some (hulls_known made.entry.node (former_hulls made.entry.hulls made.entry.former_hulls))) (made.comes ∙ on) ∙ sym (ap (marked_hulls_at old) q ∙ ap marked_hulls_of fresh)
+    | inl q ↦ ap (marked_hulls_at new) q ∙ ap marked_hulls_of made.here
+        ∙ ap (λ b. if b then None else Some
+        (hulls_known made.entry.node (former_hulls made.entry.hulls made.entry.former_hulls))) (made.comes ∙ on)
+        ∙ sym (ap (marked_hulls_at old) q ∙ ap marked_hulls_of fresh)
     | inr n ↦ ap marked_hulls_of (others c n)
   ]
 
@@ -183,15 +207,19 @@ module _ (old new : ForestView) (id : ℕ) (node : Node) (fresh : slot_at old id
       let w : seen made.entry ≡ d = (cc) in
       let n : d.node ≡ node = ap (λ (x : Seen). x.node) (sym w) ∙ made.node in
       let l : d.children ≡ [] = ap (λ (x : Seen). x.children) (sym w) ∙ made.leaf in
-      right_exact (hulls_at new) c d (ap (hulls_at new) q ∙ ap hulls_of made.here ∙ ap (λ h. Some h) (known_own made.entry node made.node made.hulls ∙ ap own_hulls (sym n) ∙ sym (over_zero (hulls_at new) (own_hulls d.node) d.children) ∙ ap (λ xs. over (hulls_at new) (own_hulls d.node) d.children (length xs)) (sym l)))
+      right_exact (hulls_at new) c d (ap (hulls_at new) q ∙ ap hulls_of made.here
+      ∙ ap (λ h. Some h) (known_own made.entry node made.node made.hulls ∙ ap own_hulls (sym n)
+      ∙ sym (over_zero (hulls_at new) (own_hulls d.node) d.children) ∙ ap (λ xs. over (hulls_at new) (own_hulls d.node) d.children (length xs)) (sym l)))
 
   pub added_whole : IsWhole (node_at new) (hulls_at new)
   added_whole = record {
-    places = InPlace-root (node_at old) (node_at new) id (seen made.entry) (ap present_of fresh) added_here made.parent (subst IsTop (sym made.node) top) (λ c n. ap present_of (others c n)) f.present.tree f.present.places;
+    places = InPlace-root (node_at old) (node_at new) id (seen made.entry) (ap present_of fresh) added_here
+        made.parent (subst IsTop (sym made.node) top) (λ c n. ap present_of (others c n)) f.present.tree f.present.places;
     tree = IsTree-root (node_at old) (node_at new) id (seen made.entry) (ap present_of fresh) added_here made.parent made.deep made.leaf (λ c n. ap present_of (others c n)) f.present.tree;
     right = λ c d t. elim (nat_cases c id) [
       | inl q ↦ leaf_right c d q t
-      | inr n ↦ (let u = sym (ap present_of (others c n)) ∙ t in right_same (node_at old) (hulls_at old) (hulls_at new) (λ k x w. ap hulls_of (others k (apart k x w))) f.present.tree c d u (f.present.right c d u))
+      | inr n ↦ (let u = sym (ap present_of (others c n)) ∙ t in right_same (node_at old) (hulls_at old)
+          (hulls_at new) (λ k x w. ap hulls_of (others k (apart k x w))) f.present.tree c d u (f.present.right c d u))
     ];
     few = few-root (node_at old) (node_at new) id (seen made.entry) added_here made.leaf (λ c n. ap present_of (others c n)) f.present.few;
   }
@@ -199,13 +227,26 @@ module _ (old new : ForestView) (id : ℕ) (node : Node) (fresh : slot_at old id
   pub IsForest-added : IsForest new
   IsForest-added = record {
     present = added_whole;
-    tops = HasRoots-moved (node_at new) _ new.roots pushed one_each (HasRoots-added (node_at old) (node_at new) old.roots f.tops id node.shape.lot (seen made.entry) (ap present_of fresh) added_here made.parent (ap (λ (n : Node). n.shape.lot) made.node) (λ c n. ap present_of (others c n)) (apart_moved _ new.roots one_each pushed));
+    tops = HasRoots-moved (node_at new) _ new.roots pushed one_each
+        (HasRoots-added (node_at old) (node_at new) old.roots f.tops id node.shape.lot (seen made.entry)
+        (ap present_of fresh) added_here made.parent (ap (λ (n : Node). n.shape.lot) made.node)
+        (λ c n. ap present_of (others c n)) (apart_moved _ new.roots one_each pushed));
     unmarked = λ q. kept ∙ ap (λ b. if b then old.marked_roots else new.roots) (sym m ∙ q);
-    marked_tops = λ q. let on : old.marking ≡ true = sym m ∙ q in subst (HasRoots (marked_at new)) (sym (kept ∙ ap (λ b. if b then old.marked_roots else new.roots) on)) (HasRoots-same (marked_at old) (marked_at new) old.marked_roots (added_mark on) (f.marked_tops on));
-    marked = λ q. let on : old.marking ≡ true = sym m ∙ q in IsWhole-same (marked_at old) (marked_at new) (marked_hulls_at old) (marked_hulls_at new) (added_mark on) (λ c e t. added_mark_hulls on c) (f.marked on);
+    marked_tops = λ q. let on : old.marking ≡ true = sym m ∙ q in subst (HasRoots (marked_at new))
+        (sym (kept ∙ ap (λ b. if b then old.marked_roots else new.roots) on))
+        (HasRoots-same (marked_at old) (marked_at new) old.marked_roots (added_mark on) (f.marked_tops on));
+    marked = λ q. let on : old.marking ≡ true = sym m ∙ q in IsWhole-same (marked_at old) (marked_at new)
+        (marked_hulls_at old) (marked_hulls_at new) (added_mark on) (λ c e t. added_mark_hulls on c) (f.marked on);
     plain = λ q k x t. let off : old.marking ≡ false = sym m ∙ q in elim (nat_cases k id) [
       | inl y ↦ (let z : Some made.entry ≡ Some x = sym made.here ∙ ap (slot_at new) (sym y) ∙ t in let w : made.entry ≡ x = (cc) in
-          record { here = ap (λ (r : SlotEntry). r.aside) (sym w) ∙ made.shows; old = ap (λ (r : SlotEntry). r.created) (sym w) ∙ made.comes ∙ off; same = ap (λ (r : SlotEntry). r.former) (sym w) ∙ made.nothing; hulls = ap (λ (r : SlotEntry). r.former_hulls) (sym w) ∙ made.no_hulls })
+          record {
+            here = ap (λ (r : SlotEntry). r.aside) (sym w)
+                ∙ made.shows;
+            old = ap (λ (r : SlotEntry). r.created) (sym w) ∙ made.comes
+                ∙ off;
+            same = ap (λ (r : SlotEntry). r.former) (sym w) ∙ made.nothing;
+            hulls = ap (λ (r : SlotEntry). r.former_hulls) (sym w) ∙ made.no_hulls;
+          })
       | inr n ↦ f.plain off k x (sym (others k n) ∙ t)
     ];
   }
@@ -218,7 +259,8 @@ module _ (old new : ForestView) (id : ℕ) (root : Seen) (is : node_at old id �
   cut_present c = ap present_of (h c) ∙ present_flag _ (slot_at old c)
 
   pub cut_seen : (c : ℕ) → node_at new c ≡ (if under (children_at old) 257 id c then None else node_at old c)
-  cut_seen c = cut_present c ∙ ap (λ b. if b then None else node_at old c) (under_same (λ d. kids (slot_at old d)) (node_at old) f.present.tree (λ k e w. kids_present (slot_at old k) e w) 257 id c root is)
+  cut_seen c = cut_present c ∙ ap (λ b. if b then None else node_at old c)
+      (under_same (λ d. kids (slot_at old d)) (node_at old) f.present.tree (λ k e w. kids_present (slot_at old k) e w) 257 id c root is)
 
   pub without_root : IsWhole (node_at new) (hulls_at new)
   without_root = record {
@@ -231,7 +273,9 @@ module _ (old new : ForestView) (id : ℕ) (root : Seen) (is : node_at old id �
         under_onto (λ d. kids (slot_at old d)) (node_at old) f.present.tree (λ k e w. kids_present (slot_at old k) e w) 257 id c p root d is t g (omega arith) u)
         f.present.tree;
     places = InPlace-part (node_at old) (node_at new) (λ c e t. (cut_some _ (node_at old c) e (sym (cut_present c) ∙ t)).1) f.present.places;
-    right = AllRight-part (node_at old) (node_at new) (hulls_at old) (hulls_at new) (λ c e t. (cut_some _ (node_at old c) e (sym (cut_present c) ∙ t)).1) (λ c e t. ap hulls_of (h c) ∙ hulls_flag _ (slot_at old c)) f.present.tree f.present.right;
+    right = AllRight-part (node_at old) (node_at new) (hulls_at old) (hulls_at new)
+        (λ c e t. (cut_some _ (node_at old c) e (sym (cut_present c) ∙ t)).1) (λ c e t. ap hulls_of (h c)
+        ∙ hulls_flag _ (slot_at old c)) f.present.tree f.present.right;
     few = few-part (node_at old) (node_at new) (λ c e t. (cut_some _ (node_at old c) e (sym (cut_present c) ∙ t)).1) f.present.few;
   }
 
@@ -240,7 +284,8 @@ module _ (old new : ForestView) (id : ℕ) (root : Seen) (is : node_at old id �
 
   pub tops_left : (name : List ℕ) (left : Named) → IsPermutation old.roots ((name, id) ∷ left) → AreApart left
       → HasRoots (node_at new) left
-  tops_left name left out apart = HasRoots-cut (node_at old) (node_at new) old.roots f.tops id name left out apart (under (λ d. kids (slot_at old d)) 257 id) cut_present (under_self (λ d. kids (slot_at old d)) 257 id (omega arith))
+  tops_left name left out apart = HasRoots-cut (node_at old) (node_at new) old.roots f.tops id name left out apart
+      (under (λ d. kids (slot_at old d)) 257 id) cut_present (under_self (λ d. kids (slot_at old d)) 257 id (omega arith))
       (λ c d t up g. under_parent (λ d. kids (slot_at old d)) (node_at old) f.present.tree (λ k e w. kids_present (slot_at old k) e w) 257 id c root d is t up g)
 
   pub IsForest-without_root : old.marking ≡ true → new.marking ≡ true → HasRoots (node_at new) new.roots

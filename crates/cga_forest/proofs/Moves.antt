@@ -151,7 +151,8 @@ module _ (K : ℕ → List ℕ) (T : ℕ → Option Seen) (tree : IsTree T) (kid
     pub going_once : (m : ℕ) → Apart (going K n P olds news m)
     unfolding going
     going_once zero = tt
-    going_once (suc m) = apart_join (going K n P olds news m) (going_at K n P (slice_get olds m) (slice_get news m)) (going_once m) (going_at_once m (slice_get olds m) (slice_get news m) refl) (λ c p q.
+    going_once (suc m) = apart_join (going K n P olds news m)
+        (going_at K n P (slice_get olds m) (slice_get news m)) (going_once m) (going_at_once m (slice_get olds m) (slice_get news m) refl) (λ c p q.
         let a = going_find m c p in
         let b = going_at_find (slice_get olds m) (slice_get news m) c q in
         let x = child id a.0 a.1 e here a.3 in let y = child id m b.0 e here b.1 in

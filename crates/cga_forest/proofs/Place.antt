@@ -20,7 +20,8 @@ IsNewEntry-same : (s t : Option SlotEntry) (above : Option ℕ) (w : Node) (dept
     → IsNewEntry s above w depth place marking → IsNewEntry t above w depth place marking
 IsNewEntry-same s t above w depth place marking q e = rw q e
 
-module _ (old now : ℕ → Option SlotEntry) (id depth : ℕ) (marking : Bool) (olds : List ℕ) (news : List Node) (made : List ℕ) (p : IsPlaced old now id depth marking olds news made) (w : Node) (asked : slice_get news (length made) ≡ Some w) where
+module _ (old now : ℕ → Option SlotEntry) (id depth : ℕ) (marking : Bool) (olds : List ℕ) (news : List Node)
+    (made : List ℕ) (p : IsPlaced old now id depth marking olds news made) (w : Node) (asked : slice_get news (length made) ≡ Some w) where
   pub IsPlaced-stays : (k : ℕ) → slice_get olds (length made) ≡ Some k → stay_of (old k) (Some w) ≡ true
       → IsPlaced old now id depth marking olds news (made ++ k ∷ [])
   IsPlaced-stays k at on = record {
@@ -52,7 +53,17 @@ module _ (old now : ℕ → Option SlotEntry) (id depth : ℕ) (marking : Bool) 
               | inr v ↦ inr (v.0, IsNewEntry-same (now c) (new c) (Some id) r.0 depth i marking (others c (apart c v.1.entry v.1.here)) v.1, v.2)
             ],
           ))
-          | inr q ↦ (w, ap (slice_get news) q.0 ∙ asked, inr (ap old q.1 ∙ fresh, subst (λ j. IsNewEntry (new c) (Some id) w depth j marking) (sym q.0) (IsNewEntry-same (new k) (new c) (Some id) w depth (length made) marking (ap new q.1) e), λ j h. unfit j (ap (slice_get olds) (sym q.0) ∙ h)))
+          | inr q ↦ (
+            w,
+            ap (slice_get news) q.0
+                ∙ asked,
+            inr (
+              ap old q.1 ∙ fresh,
+              subst (λ j. IsNewEntry (new c) (Some id) w depth j marking)
+                  (sym q.0) (IsNewEntry-same (new k) (new c) (Some id) w depth (length made) marking (ap new q.1) e),
+              λ j h. unfit j (ap (slice_get olds) (sym q.0) ∙ h),
+            ),
+          )
         ];
         rest = λ c x t. others c (apart c x (p.rest c x t)) ∙ p.rest c x t;
         created = λ c h. elim (nat_cases c k) [

@@ -106,7 +106,10 @@ module _ (S T : ℕ → Option Seen) (id : ℕ) (state : NodeState) (news : List
           let pp : Some p ≡ Some id = sym g ∙ ap (λ (k : Seen). k.parent) (sym y) ∙ w.4.parent in
           let pid : p ≡ id = (cc) in
           let b : IsBelow (with_state state e.node) w.0 w.1 = inner.children w.0 w.1 w.3 in
-          let b2 : IsBelow (with_state state e.node) d.index d.node = subst (λ (k : Seen). IsBelow (with_state state e.node) k.index k.node) y (subst (λ (m : Node). IsBelow (with_state state e.node) w.4.seen.index m) (sym w.4.node) (subst (λ j. IsBelow (with_state state e.node) j w.1) (sym w.4.index) b)) in
+          let b2 : IsBelow (with_state state e.node) d.index
+          d.node = subst (λ (k : Seen). IsBelow (with_state state e.node) k.index k.node) y
+          (subst (λ (m : Node). IsBelow (with_state state e.node) w.4.seen.index m) (sym w.4.node)
+          (subst (λ j. IsBelow (with_state state e.node) j w.1) (sym w.4.index) b)) in
           subst (λ (k : Seen). IsBelow k.node d.index d.node) (same_now p x u pid) b2)
     ]
   ]

@@ -93,7 +93,8 @@ module _ (olds children : List ℕ) where
       → (m : ℕ) → Apart (coming olds children m)
   unfolding coming
   coming_once apart zero = tt
-  coming_once apart (suc m) = apart_join (coming olds children m) (coming_at (slice_get olds m) (slice_get children m)) (coming_once apart m) (one_at (slice_get olds m) (slice_get children m)) (λ c p q.
+  coming_once apart (suc m) = apart_join (coming olds children m)
+      (coming_at (slice_get olds m) (slice_get children m)) (coming_once apart m) (one_at (slice_get olds m) (slice_get children m)) (λ c p q.
       let a = coming_in m c p in let b = coming_at_in (slice_get olds m) (slice_get children m) c q in
       let l = a.1 in let e = apart a.0 m c a.2 b.0 in absurd (omega arith))
 

@@ -41,7 +41,8 @@ module _ (S T : ℕ → Option Seen) (id : ℕ) (news : List Node) (e now : Seen
   down_now i c g = elim (r.each i c g).2 [
     | inl old ↦ (
         let u = tree.down id i c e r.was old.0 in
-        let n : c ≢ id = (λ q. let z : Some u.0 ≡ Some e = sym u.1 ∙ ap S q ∙ r.was in let w : u.0 ≡ e = (cc) in let dd : u.0.depth ≡ e.depth = ap (λ (x : Seen). x.depth) w in let d1 = u.3 in omega arith) in
+        let n : c ≢ id = (λ q. let z : Some u.0 ≡ Some e = sym u.1 ∙ ap S q ∙ r.was in let w : u.0 ≡ e = (cc) in
+        let dd : u.0.depth ≡ e.depth = ap (λ (x : Seen). x.depth) w in let d1 = u.3 in omega arith) in
         (u.0, kept c u.0 n u.1 old.1, u.2, u.3, u.4))
     | inr new ↦ (new.1.seen, new.1.here, new.1.parent, new.1.deeper, new.1.index)
   ]
@@ -62,7 +63,10 @@ module _ (S T : ℕ → Option Seen) (id : ℕ) (news : List Node) (e now : Seen
       let ep : e.parent ≡ Some p = sym r.parent ∙ ap (λ (x : Seen). x.parent) (sym w) ∙ g in
       let u = tree.up id p e r.was ep in
       let v = tree.down p e.index id u.0 u.1 u.2 in
-      let n : p ≢ id = (λ q. let z : Some u.0 ≡ Some e = sym u.1 ∙ ap S q ∙ r.was in let y : Some v.0 ≡ Some e = sym v.1 ∙ r.was in let z1 : u.0.depth ≡ e.depth = (let zz : u.0 ≡ e = (cc) in ap (λ (x : Seen). x.depth) zz) in let y1 : v.0.depth ≡ e.depth = (let yy : v.0 ≡ e = (cc) in ap (λ (x : Seen). x.depth) yy) in let k = v.3 in omega arith) in
+      let n : p ≢ id = (λ q. let z : Some u.0 ≡ Some e = sym u.1 ∙ ap S q ∙ r.was in
+      let y : Some v.0 ≡ Some e = sym v.1 ∙ r.was in let z1 : u.0.depth ≡ e.depth = (let zz : u.0 ≡ e = (cc) in
+      ap (λ (x : Seen). x.depth) zz) in let y1 : v.0.depth ≡ e.depth = (let yy : v.0 ≡ e = (cc) in
+      ap (λ (x : Seen). x.depth) yy) in let k = v.3 in omega arith) in
       let here : gone p ≡ false = elim (bool_cases (gone p)) [ inl y ↦ absurd (true≢false (sym (r.onto id p e r.was ep y) ∙ r.self)) | inr no_ ↦ no_ ] in
       (u.0, kept p u.0 n u.1 here, ap (slice_get u.0.children) (ap (λ (x : Seen). x.index) w ∙ r.index) ∙ u.2)
 
@@ -98,7 +102,8 @@ module _ (S T : ℕ → Option Seen) (id : ℕ) (news : List Node) (e now : Seen
       | inl q ↦ down_here n i c d q (same_now n d t q) g
       | inr ne ↦ elim (old_or_new n d t ne (S n) refl) [
         | inl o ↦ down_old n i c d ne o.1 o.0 g
-        | inr w ↦ (let z : Some w.4.seen ≡ Some d = sym w.4.here ∙ t in let y : w.4.seen ≡ d = (cc) in let x : slice_get [] i ≡ Some c = ap (λ xs. slice_get xs i) (sym w.4.leaf) ∙ ap (λ (x : Seen). slice_get x.children i) y ∙ g in absurd (cc))
+        | inr w ↦ (let z : Some w.4.seen ≡ Some d = sym w.4.here ∙ t in let y : w.4.seen ≡ d = (cc) in
+            let x : slice_get [] i ≡ Some c = ap (λ xs. slice_get xs i) (sym w.4.leaf) ∙ ap (λ (x : Seen). slice_get x.children i) y ∙ g in absurd (cc))
       ]
     ];
     up = λ c p d t g. elim (nat_cases c id) [
@@ -117,7 +122,9 @@ module _ (S T : ℕ → Option Seen) (id : ℕ) (news : List Node) (e now : Seen
       | inl q ↦ (let a : d.depth ≡ now.depth = ap (λ (x : Seen). x.depth) (same_now n d t q) in let b = r.depth in let k = tree.shallow id e r.was in omega arith)
       | inr ne ↦ elim (old_or_new n d t ne (S n) refl) [
         | inl o ↦ tree.shallow n d o.1
-        | inr w ↦ (let z : Some w.4.seen ≡ Some d = sym w.4.here ∙ t in let y : w.4.seen ≡ d = (cc) in let a : w.4.seen.depth ≡ d.depth = ap (λ (x : Seen). x.depth) y in let b = w.4.deeper in let k = r.low (some_within news w.0 w.1 w.3) in omega arith)
+        | inr w ↦ (let z : Some w.4.seen ≡ Some d = sym w.4.here ∙ t in let y : w.4.seen ≡ d = (cc) in
+            let a : w.4.seen.depth ≡ d.depth = ap (λ (x : Seen). x.depth) y in let b = w.4.deeper in
+            let k = r.low (some_within news w.0 w.1 w.3) in omega arith)
       ]
     ];
     at_root = λ n d t g. elim (nat_cases n id) [

@@ -246,14 +246,18 @@ module _ (s : ℕ → Option SlotEntry) (id : ℕ) (g : Option Hulls) (old new :
     but_now c d n w = but c d n (sym (present_now c) ∙ w)
 
     pub step_up : (p : ℕ) → parent_of (t id) ≡ Some p → RightBut (λ c. present_of (t c)) (λ c. hulls_of (t c)) p
-    step_up p up = right_up (λ c. present_of (t c)) (λ c. hulls_of (s c)) (λ c. hulls_of (t c)) tree_now id e here_now (λ c n. ap hulls_of (others c n)) new written made but_now p (sym (parent_present (t id) e here_now) ∙ up)
+    step_up p up = right_up (λ c. present_of (t c)) (λ c. hulls_of (s c)) (λ c. hulls_of (t c)) tree_now id e
+        here_now (λ c n. ap hulls_of (others c n)) new written made but_now p (sym (parent_present (t id) e here_now) ∙ up)
 
     pub step_top : parent_of (t id) ≡ None → AllRight (λ c. present_of (t c)) (λ c. hulls_of (t c))
-    step_top top = right_top (λ c. present_of (t c)) (λ c. hulls_of (s c)) (λ c. hulls_of (t c)) tree_now id e here_now (λ c n. ap hulls_of (others c n)) new written made but_now (sym (parent_present (t id) e here_now) ∙ top)
+    step_top top = right_top (λ c. present_of (t c)) (λ c. hulls_of (s c)) (λ c. hulls_of (t c)) tree_now id e
+        here_now (λ c n. ap hulls_of (others c n)) new written made but_now (sym (parent_present (t id) e here_now) ∙ top)
 
     pub step_due : (p : ℕ) → parent_of (t id) ≡ Some p → (grown : Option Hulls) → grown ≡ grown_from new old
         → IsDue (λ c. present_of (t c)) (λ c. hulls_of (t c)) p grown
-    step_due p up grown q d mine k x h g = due_up (λ c. present_of (t c)) (λ c. hulls_of (s c)) (λ c. hulls_of (t c)) tree_now id e here_now (λ c n. ap hulls_of (others c n)) new written made but_now old (sym was) p (sym (parent_present (t id) e here_now) ∙ up) d mine k x h (sym q ∙ g)
+    step_due p up grown q d mine k x h g = due_up (λ c. present_of (t c)) (λ c. hulls_of (s c))
+        (λ c. hulls_of (t c)) tree_now id e here_now (λ c n. ap hulls_of (others c n)) new written made but_now old
+        (sym was) p (sym (parent_present (t id) e here_now) ∙ up) d mine k x h (sym q ∙ g)
 
     pub step_within : (p : ℕ) → parent_of (t id) ≡ Some p → (place : ℕ) (told : HullsDue)
         → told ≡ due_above new old place

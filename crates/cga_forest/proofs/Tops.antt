@@ -39,7 +39,8 @@ HasRoots-moved T roots left moved apart r = record {
 
 module _ (S T : ℕ → Option Seen) (roots : Named) (r : HasRoots S roots) where
   -- a root comes, under a name that isn't there
-  module _ (id : ℕ) (name : List ℕ) (e : Seen) (fresh : S id ≡ None) (here : T id ≡ Some e) (top : e.parent ≡ None) (named : e.node.shape.lot ≡ name) (others : (c : ℕ) → c ≢ id → T c ≡ S c) (apart : AreApart (roots ++ (name, id) ∷ [])) where
+  module _ (id : ℕ) (name : List ℕ) (e : Seen) (fresh : S id ≡ None) (here : T id ≡ Some e) (top : e.parent ≡ None)
+      (named : e.node.shape.lot ≡ name) (others : (c : ℕ) → c ≢ id → T c ≡ S c) (apart : AreApart (roots ++ (name, id) ∷ [])) where
     apart_from : (c : ℕ) (d : Seen) → S c ≡ Some d → c ≢ id
     apart_from c d t q = let z : None ≡ Some d = sym fresh ∙ ap S (sym q) ∙ t in (cc)
 
@@ -64,7 +65,9 @@ module _ (S T : ℕ → Option Seen) (roots : Named) (r : HasRoots S roots) wher
     }
 
   -- a root goes, with a set of nodes that holds no other root
-  module _ (id : ℕ) (name : List ℕ) (left : Named) (out : IsPermutation roots ((name, id) ∷ left)) (apart : AreApart left) (gone : ℕ → Bool) (cut : (c : ℕ) → T c ≡ (if gone c then None else S c)) (self : gone id ≡ true) (only : (c : ℕ) (d : Seen) → S c ≡ Some d → d.parent ≡ None → gone c ≡ true → c ≡ id) where
+  module _ (id : ℕ) (name : List ℕ) (left : Named) (out : IsPermutation roots ((name, id) ∷ left))
+      (apart : AreApart left) (gone : ℕ → Bool) (cut : (c : ℕ) → T c ≡ (if gone c then None else S c))
+      (self : gone id ≡ true) (only : (c : ℕ) (d : Seen) → S c ≡ Some d → d.parent ≡ None → gone c ≡ true → c ≡ id) where
     this : Contains roots (name, id)
     this = Contains-permutation ((name, id) ∷ left) roots (name, id) (IsPermutation-sym roots ((name, id) ∷ left) out) (0, omega arith, refl)
 
@@ -99,7 +102,8 @@ module _ (S T : ℕ → Option Seen) (roots : Named) (r : HasRoots S roots) wher
   HasRoots-replaced id news e now gone p lot tree = record {
     apart = r.apart;
     each = λ name c m. let w = r.each name c m in elim (nat_cases c id) [
-      | inl q ↦ (let z : Some w.0 ≡ Some e = sym w.1 ∙ ap S q ∙ p.was in let y : w.0 ≡ e = (cc) in (now, ap T q ∙ p.is, p.parent ∙ ap (λ (x : Seen). x.parent) (sym y) ∙ w.2, lot ∙ ap (λ (x : Seen). x.node.shape.lot) (sym y) ∙ w.3))
+      | inl q ↦ (let z : Some w.0 ≡ Some e = sym w.1 ∙ ap S q ∙ p.was in let y : w.0 ≡ e = (cc) in
+          (now, ap T q ∙ p.is, p.parent ∙ ap (λ (x : Seen). x.parent) (sym y) ∙ w.2, lot ∙ ap (λ (x : Seen). x.node.shape.lot) (sym y) ∙ w.3))
       | inr n ↦ (w.0, p.rest c w.0 n w.1 ∙ ap (λ b. if b then None else Some w.0) (p.tops c w.0 w.1 w.2), w.2, w.3)
     ];
     all = λ c d t up. elim (nat_cases c id) [
@@ -110,7 +114,8 @@ module _ (S T : ℕ → Option Seen) (roots : Named) (r : HasRoots S roots) wher
           subst (λ (n : List ℕ). Contains roots (n, c)) k (r.all c e (ap S q ∙ p.was) (sym p.parent ∙ ap (λ (x : Seen). x.parent) (sym y) ∙ up)))
       | inr n ↦ elim (old_or_new S T id news e now gone p tree c d t n (S c) refl) [
         | inl o ↦ r.all c d o.1 up
-        | inr w ↦ (let z : Some w.4.seen ≡ Some d = sym w.4.here ∙ t in let y : w.4.seen ≡ d = (cc) in let u : None ≡ Some id = sym up ∙ ap (λ (x : Seen). x.parent) (sym y) ∙ w.4.parent in absurd (cc))
+        | inr w ↦ (let z : Some w.4.seen ≡ Some d = sym w.4.here ∙ t in let y : w.4.seen ≡ d = (cc) in
+            let u : None ≡ Some id = sym up ∙ ap (λ (x : Seen). x.parent) (sym y) ∙ w.4.parent in absurd (cc))
       ]
     ];
   }

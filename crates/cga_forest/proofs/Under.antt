@@ -78,7 +78,10 @@ flags_next ch old now new n id i k at same h called c =
     let p = λ (j : ℕ). under ch n j c in
     let done = nat_eq id c || list_any p (take i (ch id)) in
     let e1 : under (λ d. kids (now d)) n k c ≡ under ch n k c = under_ext (λ d. kids (now d)) ch (λ d. ap kids (h d) ∙ kids_flag _ (old d) ∙ same d) n k c in
-    called c ∙ ap (λ b. flag_if b (now c)) e1 ∙ ap (flag_if (under ch n k c)) (h c) ∙ flag_flag done (under ch n k c) (old c) ∙ ap (λ b. flag_if b (old c)) (or_assoc (nat_eq id c) (list_any p (take i (ch id))) (under ch n k c) ∙ ap (λ b. nat_eq id c || b) (sym (any_take_next p (ch id) i k at)))
+    called c ∙ ap (λ b. flag_if b (now c)) e1 ∙ ap (flag_if (under ch n k c)) (h c)
+    ∙ flag_flag done (under ch n k c) (old c)
+    ∙ ap (λ b. flag_if b (old c)) (or_assoc (nat_eq id c) (list_any p (take i (ch id))) (under ch n k c)
+    ∙ ap (λ b. nat_eq id c || b) (sym (any_take_next p (ch id) i k at)))
 
 pub flags_none : (ch : ℕ → List ℕ) (old now : ℕ → Option SlotEntry) (n id i : ℕ) → slice_get (ch id) i ≡ None
     → ((c : ℕ) → now c ≡ flag_if (nat_eq id c || list_any (λ k. under ch n k c) (take i (ch id))) (old c))

@@ -18,7 +18,15 @@ settles e = by_flag e.aside refl
     by_flag false q = record { untouched = refl; plain = record { here = q; old = refl; same = refl; hulls = refl } }
 
 rolled_calm : (e : SlotEntry) → IsCalm touched_of IsPlain e → rolled_entry e ≡ Some e
-rolled_calm e m = λ i. if m.plain.old i then None else Some (record (restored e (m.plain.same i)) { hulls = former_hulls e.hulls (m.plain.hulls i); aside = sym m.plain.here i; created = sym m.plain.old i; touched = sym m.untouched i; former = sym m.plain.same i; former_hulls = sym m.plain.hulls i })
+rolled_calm e m = λ i. if m.plain.old i then None else Some
+    (record (restored e (m.plain.same i)) {
+      hulls = former_hulls e.hulls (m.plain.hulls i);
+      aside = sym m.plain.here i;
+      created = sym m.plain.old i;
+      touched = sym m.untouched i;
+      former = sym m.plain.same i;
+      former_hulls = sym m.plain.hulls i;
+    })
 
 rolls : (e : SlotEntry) → IfSome (rolled_entry e) (IsCalm touched_of IsPlain)
 rolls e = by_flag e.created

@@ -108,7 +108,15 @@ abbrev pub settled_entry : SlotEntry → Option SlotEntry
 settled_entry e = if e.aside then None else Some (record e { created = false; touched = false; former = None; former_hulls = None })
 
 abbrev pub rolled_entry : SlotEntry → Option SlotEntry
-rolled_entry e = if e.created then None else Some (record (restored e e.former) { hulls = former_hulls e.hulls e.former_hulls; aside = false; created = false; touched = false; former = None; former_hulls = None })
+rolled_entry e = if e.created then None else Some
+    (record (restored e e.former) {
+      hulls = former_hulls e.hulls e.former_hulls;
+      aside = false;
+      created = false;
+      touched = false;
+      former = None;
+      former_hulls = None;
+    })
 
 -- the same of a slot
 abbrev pub settled : Option SlotEntry → Option SlotEntry

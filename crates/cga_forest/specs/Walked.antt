@@ -11,7 +11,18 @@ use Rattle.cga_forest.specs.Standing.{standing_of}
 use Rattle.cga_forest.specs.Tree.{ForestView, node_at, marked_at, hulls_at, children_at}
 
 abbrev pub empty_box : Box
-empty_box = record { low = record { x = record { num = pos 0; above = 0 }; y = record { num = pos 0; above = 0 }; z = record { num = pos 0; above = 0 } }; high = record { x = record { num = pos 0; above = 0 }; y = record { num = pos 0; above = 0 }; z = record { num = pos 0; above = 0 } } }
+empty_box = record {
+  low = record {
+    x = record { num = pos 0; above = 0 };
+    y = record { num = pos 0; above = 0 };
+    z = record { num = pos 0; above = 0 };
+  };
+  high = record {
+    x = record { num = pos 0; above = 0 };
+    y = record { num = pos 0; above = 0 };
+    z = record { num = pos 0; above = 0 };
+  };
+}
 
 abbrev pub own_of : Option Seen → Box
 own_of None = empty_box

@@ -190,7 +190,9 @@ impl Forest {
         symbols: &mut Symbols,
     ) -> Result<Change, NoMemory>
         requires here { (e : Seen) × (node_at self.old node ≡ Some e) × MayGrow e outcome.now }
-        ensures replaced { OnOk result ((e : Seen) → node_at self.old node ≡ Some e → Replaces (node_at self.old) (node_at self.new) node (state_after symbols.old e.node answers outcome.now) (children_after symbols.old e.node outcome.now)) }
+        ensures replaced { OnOk result ((e : Seen) → node_at self.old node ≡ Some e
+            → Replaces (node_at self.old) (node_at self.new) node
+            (state_after symbols.old e.node answers outcome.now) (children_after symbols.old e.node outcome.now)) }
         ensures unmarked { OnOk result ((c : ℕ) → node_at self.old c ≡ None → IsSome (node_at self.new c) → marked_at self.old c ≡ None) }
         ensures removed { IfOk result (λ change. ListsOnlyIn (node_at self.old) (node_at self.new) change.removed) }
         ensures created { IfOk result (λ change. ListsOnlyIn (node_at self.new) (node_at self.old) change.created) }

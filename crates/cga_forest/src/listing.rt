@@ -47,7 +47,9 @@ pub fn list_going(
     news: &[Node],
     list: &mut Vec<NodeChange>,
 ) -> Result<(), NoMemory>
-    ensures { OnOk result (list.new.items ≡ list.old.items ++ found (λ c. at store.now c) (going (λ d. kids (at store.now d)) left (λ k w. stay_of (at store.now k) w) (kids (at store.now id)) news.now (length (kids (at store.now id))))) }
+    ensures { OnOk result (list.new.items ≡ list.old.items
+        ++ found (λ c. at store.now c) (going (λ d. kids (at store.now d)) left (λ k w. stay_of (at store.now k) w)
+        (kids (at store.now id)) news.now (length (kids (at store.now id))))) }
 {
     for place in 0..child_count(store, id) {
         if let Some(child) = child_at(store, id, place) {

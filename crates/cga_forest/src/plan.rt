@@ -29,7 +29,8 @@ impl Plan {
         left: usize,
         news: &[Node],
     ) -> Result<Plan, NoMemory>
-        ensures removed { IfOk result (λ plan. plan.removed.items ≡ found (λ c. at store.now c) (going (λ d. kids (at store.now d)) left (λ k w. stay_of (at store.now k) w) (kids (at store.now id)) news.now (length (kids (at store.now id))))) }
+        ensures removed { IfOk result (λ plan. plan.removed.items ≡ found (λ c. at store.now c)
+            (going (λ d. kids (at store.now d)) left (λ k w. stay_of (at store.now k) w) (kids (at store.now id)) news.now (length (kids (at store.now id))))) }
         ensures empty { IfOk result (λ plan. plan.created.items ≡ []) }
         ensures room { IfOk result (λ plan. length news.now ≤ plan.created.cap) }
     {

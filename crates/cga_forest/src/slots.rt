@@ -148,7 +148,9 @@ pub fn replace(
 ) -> Option<usize>
     requires room { HasRoom store.old (length new.news.items) }
     requires listed { length plan.old.created.items + length new.news.items ≤ plan.old.created.cap }
-    requires removed { (c : ℕ) → is_listed plan.old.removed.items c ≡ goes (λ d. kids (at store.old d)) (MOST_DEPTH - depth_at (at store.old id)) (λ k w. stay_of (at store.old k) w) (kids (at store.old id)) new.news.items (length (kids (at store.old id))) c }
+    requires removed { (c : ℕ) → is_listed plan.old.removed.items c ≡ goes (λ d. kids (at store.old d))
+        (MOST_DEPTH - depth_at (at store.old id)) (λ k w. stay_of (at store.old k) w) (kids (at store.old id))
+        new.news.items (length (kids (at store.old id))) c }
     requires empty { new.made.items ≡ [] }
     requires space { length new.news.items ≤ new.made.cap }
     requires whole { IsWhole (λ c. present_of (at store.old c)) (λ c. hulls_of (at store.old c)) }
@@ -156,7 +158,9 @@ pub fn replace(
     requires spare { keeps_former marking (at store.old id) ≡ true → is_some new.spare ≡ true }
     requires spares { depth_at (at store.old id) < length spares.old.boxes.items }
     ensures whole { IsWhole (λ c. present_of (at store.new c)) (λ c. hulls_of (at store.new c)) }
-    ensures replaced { ReplacedBy (λ c. present_of (at store.old c)) (λ c. present_of (at store.new c)) id new.state new.news.items (λ c. goes (λ d. kids (at store.old d)) (MOST_DEPTH - depth_at (at store.old id)) (λ k w. stay_of (at store.old k) w) (kids (at store.old id)) new.news.items (length (kids (at store.old id))) c) }
+    ensures replaced { ReplacedBy (λ c. present_of (at store.old c)) (λ c. present_of (at store.new c)) id
+        new.state new.news.items (λ c. goes (λ d. kids (at store.old d)) (MOST_DEPTH - depth_at (at store.old id))
+        (λ k w. stay_of (at store.old k) w) (kids (at store.old id)) new.news.items (length (kids (at store.old id))) c) }
     ensures vacant { (c : ℕ) (d : Seen) → present_of (at store.old c) ≡ None → present_of (at store.new c) ≡ Some d → at store.old c ≡ None }
     ensures taken { (c : ℕ) → StaysTaken (at store.old c) (at store.new c) }
     ensures marked { marking ≡ true → (c : ℕ) → marked_of (at store.new c) ≡ marked_of (at store.old c) }

@@ -258,7 +258,10 @@ pub few_of : {A B : Type 0} {t s : Lexeme → Bool} {p : Reader A} {b : B} (w : 
     → StandsBehind t test s qs (f xs) b
     → Leads s (few_pieces most w xs ++ qs) (many_from test p most [] >>= f) b
 few_of {t = t} {s = s} {p = p} {b = b} w qs f test most xs are behind =
-    few_leads w qs most xs (λ q. record { leads = λ c x d r v e. few_on w t test p are.again are.starting are.apart s qs f b behind.no_more behind.no_member xs most [] (let l : length xs ≤ most = grind (arith, nat_tests) in l) behind.leads c x d r v e })
+    few_leads w qs most xs (λ q. record {
+      leads = λ c x d r v e. few_on w t test p are.again are.starting are.apart
+          s qs f b behind.no_more behind.no_member xs most [] (let l : length xs ≤ most = grind (arith, nat_tests) in l) behind.leads c x d r v e;
+    })
 
 starts_named_by : (test : Lexeme → Bool) (name : List ℕ) (qs : Pieces) (t : Bool)
     → (t ≡ false → test (lexeme.Name name) ≡ true) → (c : ℕ) (x : List Lexeme) (d : ℕ) (r : List Lexeme)

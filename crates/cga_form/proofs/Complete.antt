@@ -52,8 +52,16 @@ module _ {A : Type 0} (w : A → Pieces) (s : Lexeme → Bool) (n : ℕ) (p : Re
       (spelled_of w text a d (subst (λ z. After [] w 0 z a d) (sym whole) h.0), ap (λ z. walk n z) whole ∙ h.1)
   judged_by text x r unexpected e same h = (x, r, h.3, e, refl, (h.0, h.1, spelled_of w (x ++ h.0) h.1 h.2 h.4), stops_at x r same, h.5)
   judged_by text x r nested e same h =
-      let t = headed r h.0 h.6 in
-      (x, h.0, t.0, e ∙ ap (λ z. x ++ z) t.1, sym (ap length t.1), (h.1, h.2, spelled_of w ((x ++ h.0 ∷ []) ++ h.1) h.2 h.3 (subst (λ z. After [] w 0 z h.2 h.3) (sym (append_assoc x (h.0 ∷ []) h.1)) h.4)), h.5, h.7)
+      let t = headed r h.0 h.6 in (
+        x,
+        h.0,
+        t.0,
+        e ∙ ap (λ z. x ++ z) t.1,
+        sym (ap length t.1),
+        (h.1, h.2, spelled_of w ((x ++ h.0 ∷ []) ++ h.1) h.2 h.3 (subst (λ z. After [] w 0 z h.2 h.3) (sym (append_assoc x (h.0 ∷ []) h.1)) h.4)),
+        h.5,
+        h.7,
+      )
 
   -- the reader's told is the right one
   pub judged : (text : List Lexeme) → Judges w n text (p (at text 0))

@@ -189,8 +189,13 @@ pub limited : {A : Type 0} {w : A → Pieces} {n : ℕ} {p : Reader A} (test : L
 limited {w = w} {n = n} {p = p} test most g = record {
   runs = weaker {L = Limited (After [] w) n test p g.runs most []} {M = After [] (few_pieces most w)} n n
       (λ c x xs d h.
-      let e : xs ≡ h.0 = h.1 in
-      (few_pieces most w xs, refl, subst (λ z. Writes c z x d) (sym (few_is most w xs (subst (λ ys. length ys ≤ most) (sym e) h.3))) (each_writes w c x xs d (each_of w c x xs d (subst (λ ys. Each (After [] w) c x ys d) (sym e) h.2)))))
+      let e : xs ≡ h.0 = h.1 in (
+        few_pieces most w xs,
+        refl,
+        subst (λ z. Writes c z x d)
+            (sym (few_is most w xs (subst (λ ys. length ys ≤ most) (sym e) h.3)))
+            (each_writes w c x xs d (each_of w c x xs d (subst (λ ys. Each (After [] w) c x ys d) (sym e) h.2))),
+      ))
       (limited_runs (After [] w) n test p g.runs most []);
   some = λ c. ([], [], c, (few_pieces most w [], refl, subst (λ z. Writes c z [] c) (sym (few_is most w [] (omega arith))) (nothing c)));
 }

@@ -25,7 +25,11 @@ name_part = record { follows = nothing; exact = λ n. one_token (name_token n); 
 -- where the lower bound is taken as itself, whole numbers within both bounds are a form
 abbrev pub whole_part : (low high : ℕ) → a_whole low high (number low) ≡ Some low
     → IsForm (whole_pieces low high) (λ n. whole_between low high)
-whole_part low high e = record { follows = nothing; exact = λ n. one_token (whole_token low high n e); again = λ n. record { all = λ x. whole_leads low high x (λ e. took_last (a_whole low high) x e) } }
+whole_part low high e = record {
+  follows = nothing;
+  exact = λ n. one_token (whole_token low high n e);
+  again = λ n. record { all = λ x. whole_leads low high x (λ e. took_last (a_whole low high) x e) };
+}
 
 -- values are a form
 abbrev pub value_part : IsForm value_pieces (λ n. value)

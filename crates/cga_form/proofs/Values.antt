@@ -69,14 +69,19 @@ as_after : (c : ℕ) (x : List Lexeme) (a d : ℕ)
 as_after c x a d h =
     let t = one_of (as_token Usual (lexeme.Sign s.Slash)) (lexeme.Sign s.Slash) c h.0 h.2 h.3 refl h.5 in
     let g = h.6 in
-    let e : a ≡ g.2 = g.6.0 in
-    (h.4 ∙ ap (λ z. z ++ h.1) t.0 ∙ ap (λ z. lexeme.Sign s.Slash ∷ z) (g.4 ∙ ap (λ z. g.0 ++ z) g.6.1 ∙ nil_right g.0 ∙ g.5.0 ∙ ap (λ z. number z ∷ []) (sym e)), subst (λ z. 0 < z) (sym e) g.5.1, t.1 ∙ g.5.2 ∙ g.6.2)
+    let e : a ≡ g.2 = g.6.0 in (
+      h.4 ∙ ap (λ z. z ++ h.1) t.0 ∙ ap (λ z. lexeme.Sign s.Slash ∷ z) (g.4 ∙ ap (λ z. g.0 ++ z) g.6.1
+          ∙ nil_right g.0 ∙ g.5.0 ∙ ap (λ z. number z ∷ []) (sym e)),
+      subst (λ z. 0 < z) (sym e) g.5.1,
+      t.1 ∙ g.5.2 ∙ g.6.2,
+    )
 
 divisor_runs : (n : ℕ) → Exact n n Divided b.divisor
 unfolding b.divisor
 divisor_runs n =
     weaker n n as_after
-    (bind_runs (After [] (as_token Usual (lexeme.Sign s.Slash))) (λ _. Seq Divisor (λ k. Same k)) n n n (single (a_sign s.Slash)) (λ _. single b.a_divisor >>= λ d. pure d) (λ _. divisor_text) (λ _. exact_divisor n) (slash n).runs)
+    (bind_runs (After [] (as_token Usual (lexeme.Sign s.Slash))) (λ _. Seq Divisor (λ k. Same k)) n n n
+    (single (a_sign s.Slash)) (λ _. single b.a_divisor >>= λ d. pure d) (λ _. divisor_text) (λ _. exact_divisor n) (slash n).runs)
 
 after_text : Some_text Divided
 after_text c = (lexeme.Sign s.Slash ∷ number 1 ∷ [], 1, c, (refl, omega arith, refl))
@@ -130,7 +135,8 @@ magnitude_runs : (minus : Bool) (n : ℕ) → Exact n n (Magnitude minus) (b.mag
 unfolding b.magnitude
 magnitude_runs minus n =
     weaker n n (as_magnitude minus)
-    (bind_runs (After [] number_pieces) (λ v. Rest minus v (whole_of v)) n n n (single a_number) (λ v. b.magnitude_rest minus v (whole_of v)) (λ v. rest_text minus v (whole_of v)) (λ v. rest_runs minus v (whole_of v) n)
+    (bind_runs (After [] number_pieces) (λ v. Rest minus v (whole_of v)) n n n (single a_number)
+    (λ v. b.magnitude_rest minus v (whole_of v)) (λ v. rest_text minus v (whole_of v)) (λ v. rest_runs minus v (whole_of v) n)
     (one_token (number_token n)).runs)
 
 magnitude_text : (minus : Bool) → Some_text (Magnitude minus)

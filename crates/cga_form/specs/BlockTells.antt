@@ -53,7 +53,8 @@ line_number n = min n 4294967295
 -- one of the lines is the first faulty one
 abbrev pub IsFaulty : {A : Type 0} → (A → Pieces) → List Line → BlockFault → Type 0
 IsFaulty {A} w lines f =
-    (before : List Line) × (l : Line) × (after : List Line) × (all : List (Option A)) × (lines ≡ before ++ l ∷ after) × Say w before all × BlockTells w l (Err f.fault) × (f.line ≡ line_number (suc (length before)))
+    (before : List Line) × (l : Line) × (after : List Line) × (all : List (Option A))
+    × (lines ≡ before ++ l ∷ after) × Say w before all × BlockTells w l (Err f.fault) × (f.line ≡ line_number (suc (length before)))
 
 -- what the lines of a block say, or the first faulty line
 abbrev pub AllTells : {A B : Type 0} → (A → Pieces) → (List (Option A) → B) → List Line → Result B BlockFault → Type 0

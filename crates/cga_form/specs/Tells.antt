@@ -13,4 +13,5 @@ use Rattle.cga_form.specs.declared.fault.Fault.TheVariants.{Unexpected, TooNeste
 abbrev pub Tells : {A : Type 0} → (A → Pieces) → ℕ → List Lexeme → Result A Fault → Type 0
 Tells w n text (Ok a) = Spelled w text a × (walk n text ≡ Some n)
 Tells w n text (Err (Unexpected left)) = (x : List Lexeme) × (r : List Lexeme) × (m : ℕ) × (text ≡ x ++ r) × (length r ≡ left) × Begins w x × Stops w x r × (walk n x ≡ Some m)
-Tells w n text (Err (TooNested left)) = (x : List Lexeme) × (j : Lexeme) × (r : List Lexeme) × (text ≡ x ++ j ∷ r) × (suc (length r) ≡ left) × Begins w (x ++ j ∷ []) × (walk n x ≡ Some 0) × IsOpening j
+Tells w n text (Err (TooNested left)) = (x : List Lexeme) × (j : Lexeme) × (r : List Lexeme) × (text ≡ x ++ j ∷ r)
+    × (suc (length r) ≡ left) × Begins w (x ++ j ∷ []) × (walk n x ≡ Some 0) × IsOpening j

@@ -27,5 +27,6 @@ pub read_is : (whole places : List ℕ) (v w p : ℕ) (r : Rat) → is_numeral w
     → ◌≡◌ {A = Result Rat DecimalFault} (Ok r) (read_of whole places)
 read_is whole places v w p r n few a b e f =
     let s : w ≡ digits_value_after 10 0 (whole ++ places) = b ∙ ap (λ (k : ℕ). digits_value_after 10 k places) a ∙ sym (after-append 0 whole places) in
-    let q : r ≡ reduced (pos (digits_value_after 10 0 (whole ++ places))) (10 ^ length places) = f ∙ ap (λ (k : ℕ). reduced (pos k) p) s ∙ ap (λ (k : ℕ). reduced (pos (digits_value_after 10 0 (whole ++ places))) k) e in
+    let q : r ≡ reduced (pos (digits_value_after 10 0 (whole ++ places))) (10 ^ length places) = f
+    ∙ ap (λ (k : ℕ). reduced (pos k) p) s ∙ ap (λ (k : ℕ). reduced (pos (digits_value_after 10 0 (whole ++ places))) k) e in
     rw (n, within_limit (length whole + length places) few, q) refl

@@ -126,7 +126,9 @@ monotone pa ma da pb mb db pc mc dc h =
 -- a larger summand gives a larger sum
 pub plus_le : (a b c : Rat) → IsTrue (rat_le b c) → IsTrue (rat_le (plus a b) (plus a c))
 plus_le a b c h =
-    le_diff (plus a b) (plus a c) _ _ _ _ _ _ (plus_diff a b) (plus_diff a c) (monotone (positive_part a.num) (negative_part a.num) (den a) (positive_part b.num) (negative_part b.num) (den b) (positive_part c.num) (negative_part c.num) (den c) (le_fact b c h))
+    le_diff (plus a b) (plus a c) _ _ _ _ _ _ (plus_diff a b) (plus_diff a c)
+    (monotone (positive_part a.num) (negative_part a.num) (den a) (positive_part b.num) (negative_part b.num)
+    (den b) (positive_part c.num) (negative_part c.num) (den c) (le_fact b c h))
 
 together : (p m q s t r u v d w x e : ℕ) → p * d + v * q ≡ u * q + m * d → s * e + x * r ≡ w * r + t * e
     → (p * r + s * q) * (d * e) + (v * e + x * d) * (q * r) ≡ (u * e + w * d) * (q * r) + (m * r + t * q) * (d * e)
@@ -217,7 +219,8 @@ times_diff a b =
     let r = reduced_diff (a.num *ℤ b.num) (den a * den b) h in
     let k = product_parts a.num b.num in
     let k' = ap (λ z. z * (den a * den b)) k in
-    like (times a b) _ _ _ (positive_part a.num * positive_part b.num + negative_part a.num * negative_part b.num) (positive_part a.num * negative_part b.num + negative_part a.num * positive_part b.num) (den a * den b) r (omega (arith, k')) h
+    like (times a b) _ _ _ (positive_part a.num * positive_part b.num + negative_part a.num * negative_part b.num)
+    (positive_part a.num * negative_part b.num + negative_part a.num * positive_part b.num) (den a * den b) r (omega (arith, k')) h
 
 monotone_minus : (pa ma da pb mb db pc mc dc : ℕ) → pb * dc + mc * db ≤ pc * db + mb * dc
     → (pa * dc + mc * da) * (da * db) + (ma * db + pb * da) * (da * dc) ≤ (pa * db + mb * da) * (da * dc) +
@@ -228,4 +231,6 @@ monotone_minus pa ma da pb mb db pc mc dc h =
 -- a larger number taken away leaves less
 pub minus_le : (a b c : Rat) → IsTrue (rat_le b c) → IsTrue (rat_le (minus a c) (minus a b))
 minus_le a b c h =
-    le_diff (minus a c) (minus a b) _ _ _ _ _ _ (minus_diff a c) (minus_diff a b) (monotone_minus (positive_part a.num) (negative_part a.num) (den a) (positive_part b.num) (negative_part b.num) (den b) (positive_part c.num) (negative_part c.num) (den c) (le_fact b c h))
+    le_diff (minus a c) (minus a b) _ _ _ _ _ _ (minus_diff a c) (minus_diff a b)
+    (monotone_minus (positive_part a.num) (negative_part a.num) (den a) (positive_part b.num)
+    (negative_part b.num) (den b) (positive_part c.num) (negative_part c.num) (den c) (le_fact b c h))

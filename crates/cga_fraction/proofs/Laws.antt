@@ -67,10 +67,13 @@ same_at : (n m : ℤ) (x y : ℕ) → gcd (unsigned_abs n) (x + 1) ≡ 1 → gcd
 same_at (pos n) (pos m) x y p q h k =
     let f = le_fact (record { num = pos n; above = x }) (record { num = pos m; above = y }) h in let g = le_fact (record { num = pos m; above = y }) (record { num = pos n; above = x }) k in
     let w = over_pos n x m y p q (omega arith) in (w.0, ap pos w.1)
-same_at (pos n) (negsuc m) x y p q h k = let f = le_fact (record { num = pos n; above = x }) (record { num = negsuc m; above = y }) h in let g : n * (y + 1) + suc m * (x + 1) ≤ 0 = omega arith in absurd (omega arith)
-same_at (negsuc n) (pos m) x y p q h k = let f = le_fact (record { num = pos m; above = y }) (record { num = negsuc n; above = x }) k in let g : m * (x + 1) + suc n * (y + 1) ≤ 0 = omega arith in absurd (omega arith)
+same_at (pos n) (negsuc m) x y p q h k = let f = le_fact (record { num = pos n; above = x })
+    (record { num = negsuc m; above = y }) h in let g : n * (y + 1) + suc m * (x + 1) ≤ 0 = omega arith in absurd (omega arith)
+same_at (negsuc n) (pos m) x y p q h k = let f = le_fact (record { num = pos m; above = y })
+    (record { num = negsuc n; above = x }) k in let g : m * (x + 1) + suc n * (y + 1) ≤ 0 = omega arith in absurd (omega arith)
 same_at (negsuc n) (negsuc m) x y p q h k =
-    let f = le_fact (record { num = negsuc n; above = x }) (record { num = negsuc m; above = y }) h in let g = le_fact (record { num = negsuc m; above = y }) (record { num = negsuc n; above = x }) k in
+    let f = le_fact (record { num = negsuc n; above = x }) (record { num = negsuc m; above = y }) h in
+    let g = le_fact (record { num = negsuc m; above = y }) (record { num = negsuc n; above = x }) k in
     let w = over_pos (suc n) x (suc m) y p q (omega arith) in (w.0, ap negsuc (omega (arith, w.1)))
 
 -- two numbers in lowest terms, each at most the other, are one

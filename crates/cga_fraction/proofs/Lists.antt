@@ -55,4 +55,5 @@ pointwise-same a = (bytes_decides a a).1 refl
 
 -- two texts are equal byte by byte either way round, or neither
 pub pointwise-order : (a b : List ℕ) → pointwise nat_eq a b ≡ pointwise nat_eq b a
-pointwise-order a b = same_from_both_ways (pointwise nat_eq a b) (pointwise nat_eq b a) (λ h. (bytes_decides b a).1 (sym (eq_from_pointwise a b h))) (λ h. (bytes_decides a b).1 (sym (eq_from_pointwise b a h)))
+pointwise-order a b = same_from_both_ways (pointwise nat_eq a b) (pointwise nat_eq b a)
+    (λ h. (bytes_decides b a).1 (sym (eq_from_pointwise a b h))) (λ h. (bytes_decides a b).1 (sym (eq_from_pointwise b a h)))

@@ -127,7 +127,9 @@ fits : (text : List ℕ) (a : Rat) (r : Reads text a) → Fits a r.whole r.place
 fits text a r =
     let n : ℕ = digits_value 10 (r.whole ++ r.places) in
     let h : 0 < 10 ^ length r.places = one-le-pow (length r.places) 10 (omega arith) in
-    let q : IsRatio a (digits_value 10 (r.whole ++ r.places)) (10 ^ length r.places) = subst (λ b. IsRatio b (digits_value 10 (r.whole ++ r.places)) (10 ^ length r.places)) (sym r.value) (reduced_ratio (digits_value 10 (r.whole ++ r.places)) (10 ^ length r.places) h) in
+    let q : IsRatio a (digits_value 10 (r.whole ++ r.places))
+    (10 ^ length r.places) = subst (λ b. IsRatio b (digits_value 10 (r.whole ++ r.places))
+    (10 ^ length r.places)) (sym r.value) (reduced_ratio (digits_value 10 (r.whole ++ r.places)) (10 ^ length r.places) h) in
     let t : unsigned_abs a.num ≡ q.top = ap unsigned_abs q.is in
     let dv : den a ∣ 10 ^ length r.places = subst (λ b. den b ∣ 10 ^ length r.places) (sym r.value) (divides_power (digits_value 10 (r.whole ++ r.places)) (length r.places)) in
     let z : 10 ^ length r.places % den a ≡ 0 = mod-eq-zero_of_dvd (den a) dv in
@@ -135,10 +137,13 @@ fits text a r =
     let dp : den a ∣ 10 ^ least_places a = dvd_of_mod-eq-zero (den a) l.1 in
     let m : unsigned_abs a.num * 10 ^ least_places a / den a * den a ≡ unsigned_abs a.num * 10 ^ least_places a = div-mul_cancel (den a) (dvd-mul_left_of_dvd (den a) dp (unsigned_abs a.num)) in
     let e : unsigned_abs a.num * 10 ^ length r.places ≡ digits_value 10 (r.whole ++ r.places) * den a = ap (λ c. c * 10 ^ length r.places) t ∙ q.same in
-    let s = same_number (digits_value 10 (r.whole ++ r.places)) (length r.places) (unsigned_abs a.num * 10 ^ least_places a / den a) (least_places a) (unsigned_abs a.num) (den a) (omega arith) e m l.0 in
-    let parts : digits_value 10 (r.whole ++ r.places) ≡ digits_value 10 r.whole * 10 ^ length r.places + digits_value 10 r.places = after-append 0 r.whole r.places ∙ after_split (digits_value 10 r.whole) r.places in
+    let s = same_number (digits_value 10 (r.whole ++ r.places)) (length r.places)
+    (unsigned_abs a.num * 10 ^ least_places a / den a) (least_places a) (unsigned_abs a.num) (den a) (omega arith) e m l.0 in
+    let parts : digits_value 10 (r.whole ++ r.places) ≡ digits_value 10 r.whole * 10 ^ length r.places +
+    digits_value 10 r.places = after-append 0 r.whole r.places ∙ after_split (digits_value 10 r.whole) r.places in
     let below : digits_value 10 r.places < 10 ^ length r.places = digits_value_short own r.places (length r.places) r.more (omega arith) in
-    let front : digits_value 10 (r.whole ++ r.places) / 10 ^ length r.places ≡ digits_value 10 r.whole = ap (λ c. c / 10 ^ length r.places) parts ∙ div-mul-add (digits_value 10 r.whole) (10 ^ length r.places) (digits_value 10 r.places) below in
+    let front : digits_value 10 (r.whole ++ r.places) / 10 ^ length r.places ≡ digits_value 10
+    r.whole = ap (λ c. c / 10 ^ length r.places) parts ∙ div-mul-add (digits_value 10 r.whole) (10 ^ length r.places) (digits_value 10 r.places) below in
     let w : digits_value 10 r.whole < 10 ^ length r.whole = digits_value_short own r.whole (length r.whole) r.digits (omega arith) in
     let most : 10 ^ length r.whole ≤ 10 ^ 18 = pow-le-pow_right {n = 10} (omega arith) {i = length r.whole} {j = 18} (let f = r.few in omega arith) in
     let v : digits_value 10 r.whole < 2 ^ 64 = omega arith in
@@ -147,7 +152,8 @@ fits text a r =
       fewer = l.0;
       front = rw i (length-decimal-le (length r.whole) (digits_value 10 r.whole) r.some w v);
       small = rw i v;
-      same = reduced_like (unsigned_abs a.num * 10 ^ least_places a / den a) (10 ^ least_places a) (digits_value 10 (r.whole ++ r.places)) (10 ^ length r.places) (one-le-pow (least_places a) 10 (omega arith)) h s.0 ∙ sym r.value;
+      same = reduced_like (unsigned_abs a.num * 10 ^ least_places a / den a) (10 ^ least_places a)
+          (digits_value 10 (r.whole ++ r.places)) (10 ^ length r.places) (one-le-pow (least_places a) 10 (omega arith)) h s.0 ∙ sym r.value;
     }
 
 literal_reads : (text : List ℕ) (a : Rat) (r : Reads text a) → decimal_of (literal_text_of a) ≡ Ok a
@@ -166,7 +172,9 @@ unfolding literal_text_of
 literal_short text a r =
     let f = fits text a r in
     let l = length-pointed (least_places a) (unsigned_abs a.num * 10 ^ least_places a / den a) in
-    short (least_places a) (length r.places) (length (decimal (unsigned_abs a.num * 10 ^ least_places a / den a / 10 ^ least_places a))) (length r.whole) _ (length text) f.fewer f.front l.0 l.1 r.alone r.pointed
+    short (least_places a) (length r.places)
+    (length (decimal (unsigned_abs a.num * 10 ^ least_places a / den a / 10 ^ least_places a)))
+    (length r.whole) _ (length text) f.fewer f.front l.0 l.1 r.alone r.pointed
 
 -- where some text is read as a number, the literal text is, and no shorter one
 pub literal_is_shortest : (a : Rat) → IsLiteral a → IsShortest a (literal_text_of a)

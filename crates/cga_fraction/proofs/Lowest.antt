@@ -106,7 +106,8 @@ formed_beyond n d q e is above h =
     let beyond : (2 ^ 62 < unsigned_abs n / g) ⊎ (2 ^ 62 < d / g) = rw (is.numerator, is.denominator) at above in
     let p : 0 < d / g = quotient_positive d _ (gcd-IsGcd (unsigned_abs n) d).1 h in
     let k : d / g - 1 + 1 ≡ d / g = omega arith in
-    let out : in_range (record { num = with_sign n (unsigned_abs n / g); above = d / g - 1 }) ≡ false = rw (abs-with_sign, k) (grind (arith, leb_tells (unsigned_abs n / g) (2 ^ 62), leb_tells (d / g) (2 ^ 62))) in
+    let out : in_range (record { num = with_sign n (unsigned_abs n / g); above = d / g - 1 }) ≡ false = rw
+    (abs-with_sign, k) (grind (arith, leb_tells (unsigned_abs n / g) (2 ^ 62), leb_tells (d / g) (2 ^ 62))) in
     rw (reduced-parts n d _ refl) (sym (checked-out _ out))
 
 pub whole_is_reduced : (n : ℤ) → unsigned_abs n ≤ 2 ^ 62 → IsReduced n 1

@@ -45,7 +45,8 @@ chain p m q n r k d e f h x y =
 -- where a number is at most a second and that at most a third, the first is at most the third
 pub le_trans : (a b c : Rat) → IsTrue (rat_le a b) → IsTrue (rat_le b c) → IsTrue (rat_le a c)
 le_trans a b c h k =
-    le_test a c (chain (positive_part a.num) (negative_part a.num) (positive_part b.num) (negative_part b.num) (positive_part c.num) (negative_part c.num) (den a) (den b) (den c) (omega arith) (le_fact a b h) (le_fact b c k))
+    le_test a c (chain (positive_part a.num) (negative_part a.num) (positive_part b.num) (negative_part b.num)
+    (positive_part c.num) (negative_part c.num) (den a) (den b) (den c) (omega arith) (le_fact a b h) (le_fact b c k))
 
 -- where a number is below another, the other isn't at most it
 pub lt_not_le : (a b : Rat) → IsTrue (rat_lt a b) → IsTrue (rat_le b a) → ⊥

@@ -118,7 +118,8 @@ pub by_negative : (n : ℤ) (d : ℕ) (m : Result Rat Overflow) (r : Result Rat 
     → m ≡ checked (reduced (neg_ℤ n) (suc d)) → r ≡ or_err fault.Overflow m
     → r ≡ quotient_of (of_int n) (of_int (negsuc d))
 unfolding times
-by_negative n d m r f g = quotient_is (of_int n) (of_int (negsuc d)) _ _ r (λ e. cc) refl refl (g ∙ rw f (rw (minus_one-scaled n) (ap (λ k. or_err fault.Overflow (checked (reduced (neg_ℤ n) k))) (omega arith))))
+by_negative n d m r f g = quotient_is (of_int n) (of_int (negsuc d)) _ _ r (λ e. cc) refl refl
+    (g ∙ rw f (rw (minus_one-scaled n) (ap (λ k. or_err fault.Overflow (checked (reduced (neg_ℤ n) k))) (omega arith))))
 
 pub by_negative_int : (n d : ℤ) (m : Result Rat Overflow) (r : Result Rat DivFault) → d <ℤ pos 0
     → m ≡ checked (reduced (neg_ℤ n) (unsigned_abs d)) → r ≡ or_err fault.Overflow m

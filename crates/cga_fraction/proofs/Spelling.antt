@@ -71,7 +71,8 @@ value-padded (suc places) n v =
     let p : 0 < 10 ^ places = one-le-pow places 10 (omega arith) in
     let t = tail_mod n (10 ^ places) p in
     rw (padded-one places n)
-    (ap (λ (k : ℕ). digits_value_after 10 (v * 10 + k) (padded places n)) (value_of_digit (n / 10 ^ places % 10) d) ∙ value-padded places n (v * 10 + n / 10 ^ places % 10) ∙ rw (pow-suc 10 places) (omega (arith, t)))
+    (ap (λ (k : ℕ). digits_value_after 10 (v * 10 + k) (padded places n)) (value_of_digit (n / 10 ^ places % 10) d)
+    ∙ value-padded places n (v * 10 + n / 10 ^ places % 10) ∙ rw (pow-suc 10 places) (omega (arith, t)))
 
 -- ---- points
 
@@ -139,15 +140,18 @@ reads_at : (places n : ℕ) → n / 10 ^ places < 2 ^ 64 → length (decimal (n 
 reads_at zero n h few =
     let i : n / 10 ^ 0 ≡ n = omega arith in
     let v : digits_value 10 (decimal (n / 10 ^ 0)) ≡ n / 10 ^ 0 = digits_value-decimal own (n / 10 ^ 0) h in
-    rw (append-nil (decimal (n / 10 ^ 0))) (reads_whole (decimal (n / 10 ^ 0)) (length_decimal_some (n / 10 ^ 0) h) (digits_decimal own (n / 10 ^ 0) h) (omega arith) ∙ ap (λ (k : ℕ). Ok (reduced (pos k) 1)) (v ∙ i))
+    rw (append-nil (decimal (n / 10 ^ 0))) (reads_whole (decimal (n / 10 ^ 0)) (length_decimal_some (n / 10 ^ 0) h)
+    (digits_decimal own (n / 10 ^ 0) h) (omega arith) ∙ ap (λ (k : ℕ). Ok (reduced (pos k) 1)) (v ∙ i))
 reads_at (suc places) n h few =
     let w : ℕ = n / 10 ^ suc places in
     let l = length-padded (suc places) n in
     let p : 0 < 10 ^ suc places = one-le-pow (suc places) 10 (omega arith) in
     let v : digits_value 10 (decimal (n / 10 ^ suc places)) ≡ n / 10 ^ suc places = digits_value-decimal own (n / 10 ^ suc places) h in
     let m : 10 ^ suc places * (n / 10 ^ suc places) + n % 10 ^ suc places ≡ n = omega arith in
-    let t : digits_value 10 (decimal (n / 10 ^ suc places) ++ padded (suc places) n) ≡ n = after-append 0 (decimal (n / 10 ^ suc places)) (padded (suc places) n) ∙ value-padded (suc places) n _ ∙ rw v (omega arith) in
-    reads_parts (decimal (n / 10 ^ suc places)) (padded (suc places) n) (length_decimal_some (n / 10 ^ suc places) h) (digits_decimal own (n / 10 ^ suc places) h) (omega arith) (digits-padded (suc places) n) (omega arith)
+    let t : digits_value 10 (decimal (n / 10 ^ suc places) ++ padded (suc places) n) ≡ n = after-append 0
+    (decimal (n / 10 ^ suc places)) (padded (suc places) n) ∙ value-padded (suc places) n _ ∙ rw v (omega arith) in
+    reads_parts (decimal (n / 10 ^ suc places)) (padded (suc places) n)
+    (length_decimal_some (n / 10 ^ suc places) h) (digits_decimal own (n / 10 ^ suc places) h) (omega arith) (digits-padded (suc places) n) (omega arith)
     ∙ ap (λ (k : ℕ). Ok (reduced (pos k) (10 ^ length (padded (suc places) n)))) t ∙ ap (λ (k : ℕ). Ok (reduced (pos n) (10 ^ k))) l
 
 -- where a number is written with some places in at most 18 digits, its whole part in 64 bits, the text is read as it

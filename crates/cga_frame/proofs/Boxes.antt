@@ -137,7 +137,9 @@ meets_touches a b p e =
 pub touches_itself : (a : Box) → is_box a ≡ true → touches a a ≡ true
 touches_itself a p =
     let s = sides a p in
-    touches_all a a (touches_from a.low.x _ _ _ _ (start a.low.x a.high.x s.0) (start a.low.x a.high.x s.0)) (touches_from a.low.y _ _ _ _ (start a.low.y a.high.y s.1) (start a.low.y a.high.y s.1)) (touches_from a.low.z _ _ _ _ (start a.low.z a.high.z s.2) (start a.low.z a.high.z s.2))
+    touches_all a a (touches_from a.low.x _ _ _ _ (start a.low.x a.high.x s.0) (start a.low.x a.high.x s.0))
+    (touches_from a.low.y _ _ _ _ (start a.low.y a.high.y s.1) (start a.low.y a.high.y s.1))
+    (touches_from a.low.z _ _ _ _ (start a.low.z a.high.z s.2) (start a.low.z a.high.z s.2))
 
 -- ---- hulls
 

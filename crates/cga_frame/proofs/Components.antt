@@ -86,7 +86,11 @@ corner_of s c far = record { x = corner c s.frame.x s.at.x far.x; y = corner c s
 
 -- and its ends
 abbrev pub ends_of : Scope → Component → Point → Point
-ends_of s c far = record { x = end_of c s.frame.x (turned s.frame c.axis c.by).x s.at.x far.x; y = end_of c s.frame.y (turned s.frame c.axis c.by).y s.at.y far.y; z = end_of c s.frame.z (turned s.frame c.axis c.by).z s.at.z far.z }
+ends_of s c far = record {
+  x = end_of c s.frame.x (turned s.frame c.axis c.by).x s.at.x far.x;
+  y = end_of c s.frame.y (turned s.frame c.axis c.by).y s.at.y far.y;
+  z = end_of c s.frame.z (turned s.frame c.axis c.by).z s.at.z far.z;
+}
 
 pub component_far : (s : Scope) (c : Component) → IsFitting c → Exists s
     → ends_of s c (far_of s) ≡ far_of (component_of s c)

@@ -126,19 +126,35 @@ composed_at X Y Z s t u g h k =
     even_at _ _ _ k (mixed s t u g.x.against g.y.against g.z.against ∙ ap (λ (b : Bool). differ b (differ g.x.against (differ g.y.against g.z.against))) e)
 composed_at Y Z X s t u g h k =
     let e : differ s (differ t u) ≡ false = cc in
-    even_at _ _ _ (turned_left g.x.axis g.y.axis g.z.axis ∙ k) (mixed s t u g.y.against g.z.against g.x.against ∙ ap (λ (b : Bool). differ b (differ g.y.against (differ g.z.against g.x.against))) e ∙ sym (differ_assoc g.y.against g.z.against g.x.against) ∙ differ_comm (differ g.y.against g.z.against) g.x.against)
+    even_at _ _ _ (turned_left g.x.axis g.y.axis g.z.axis ∙ k) (mixed s t u g.y.against g.z.against g.x.against
+    ∙ ap (λ (b : Bool). differ b (differ g.y.against (differ g.z.against g.x.against))) e
+    ∙ sym (differ_assoc g.y.against g.z.against g.x.against) ∙ differ_comm (differ g.y.against g.z.against) g.x.against)
 composed_at Z X Y s t u g h k =
     let e : differ s (differ t u) ≡ false = cc in
-    even_at _ _ _ (sym (turned_left g.z.axis g.x.axis g.y.axis) ∙ k) (mixed s t u g.z.against g.x.against g.y.against ∙ ap (λ (b : Bool). differ b (differ g.z.against (differ g.x.against g.y.against))) e ∙ differ_comm g.z.against (differ g.x.against g.y.against) ∙ differ_assoc g.x.against g.y.against g.z.against)
+    even_at _ _ _ (sym (turned_left g.z.axis g.x.axis g.y.axis) ∙ k)
+    (mixed s t u g.z.against g.x.against g.y.against
+    ∙ ap (λ (b : Bool). differ b (differ g.z.against (differ g.x.against g.y.against))) e
+    ∙ differ_comm g.z.against (differ g.x.against g.y.against) ∙ differ_assoc g.x.against g.y.against g.z.against)
 composed_at X Z Y s t u g h k =
     let e : differ s (differ t u) ≡ true = cc in
-    even_at _ _ _ (swapped_right g.x.axis g.y.axis g.z.axis ∙ ap swapped k) (mixed s t u g.x.against g.z.against g.y.against ∙ ap (λ (b : Bool). differ b (differ g.x.against (differ g.z.against g.y.against))) e ∙ ap (λ (b : Bool). not (differ g.x.against b)) (differ_comm g.z.against g.y.against))
+    even_at _ _ _ (swapped_right g.x.axis g.y.axis g.z.axis ∙ ap swapped k)
+    (mixed s t u g.x.against g.z.against g.y.against
+    ∙ ap (λ (b : Bool). differ b (differ g.x.against (differ g.z.against g.y.against))) e
+    ∙ ap (λ (b : Bool). not (differ g.x.against b)) (differ_comm g.z.against g.y.against))
 composed_at Y X Z s t u g h k =
     let e : differ s (differ t u) ≡ true = cc in
-    even_at _ _ _ (swapped_left g.x.axis g.y.axis g.z.axis ∙ ap swapped k) (mixed s t u g.y.against g.x.against g.z.against ∙ ap (λ (b : Bool). differ b (differ g.y.against (differ g.x.against g.z.against))) e ∙ ap not (sym (differ_assoc g.y.against g.x.against g.z.against) ∙ ap (λ (b : Bool). differ b g.z.against) (differ_comm g.y.against g.x.against) ∙ differ_assoc g.x.against g.y.against g.z.against))
+    even_at _ _ _ (swapped_left g.x.axis g.y.axis g.z.axis ∙ ap swapped k)
+    (mixed s t u g.y.against g.x.against g.z.against
+    ∙ ap (λ (b : Bool). differ b (differ g.y.against (differ g.x.against g.z.against))) e
+    ∙ ap not (sym (differ_assoc g.y.against g.x.against g.z.against) ∙ ap (λ (b : Bool). differ b g.z.against)
+    (differ_comm g.y.against g.x.against) ∙ differ_assoc g.x.against g.y.against g.z.against))
 composed_at Z Y X s t u g h k =
     let e : differ s (differ t u) ≡ true = cc in
-    even_at _ _ _ (swapped_left g.y.axis g.z.axis g.x.axis ∙ ap swapped (turned_left g.x.axis g.y.axis g.z.axis ∙ k)) (mixed s t u g.z.against g.y.against g.x.against ∙ ap (λ (b : Bool). differ b (differ g.z.against (differ g.y.against g.x.against))) e ∙ ap not (differ_comm g.z.against (differ g.y.against g.x.against) ∙ ap (λ (b : Bool). differ b g.z.against) (differ_comm g.y.against g.x.against) ∙ differ_assoc g.x.against g.y.against g.z.against))
+    even_at _ _ _ (swapped_left g.y.axis g.z.axis g.x.axis ∙ ap swapped (turned_left g.x.axis g.y.axis g.z.axis
+    ∙ k)) (mixed s t u g.z.against g.y.against g.x.against
+    ∙ ap (λ (b : Bool). differ b (differ g.z.against (differ g.y.against g.x.against))) e
+    ∙ ap not (differ_comm g.z.against (differ g.y.against g.x.against)
+    ∙ ap (λ (b : Bool). differ b g.z.against) (differ_comm g.y.against g.x.against) ∙ differ_assoc g.x.against g.y.against g.z.against))
 composed_at a b c s t u g h k = absurd (cc)
 
 -- a frame that is given in the axes of another is a frame
@@ -175,9 +191,19 @@ right_at Z X Y s t u h =
 right_at X Z Y s t u h =
     let e : differ s (differ t u) ≡ true = cc in record { third = ap (on Y) (last s u t true (ap (differ s) (differ_comm u t) ∙ e)); apart = refl }
 right_at Y X Z s t u h =
-    let e : differ s (differ t u) ≡ true = cc in record { third = ap (on Z) (last t s u true (sym (differ_assoc t s u) ∙ ap (λ (b : Bool). differ b u) (differ_comm t s) ∙ differ_assoc s t u ∙ e)); apart = refl }
+    let e : differ s (differ t u) ≡ true = cc in
+    record {
+      third = ap (on Z) (last t s u true (sym (differ_assoc t s u)
+          ∙ ap (λ (b : Bool). differ b u) (differ_comm t s) ∙ differ_assoc s t u ∙ e));
+      apart = refl;
+    }
 right_at Z Y X s t u h =
-    let e : differ s (differ t u) ≡ true = cc in record { third = ap (on X) (last u t s true (differ_comm u (differ t s) ∙ ap (λ (b : Bool). differ b u) (differ_comm t s) ∙ differ_assoc s t u ∙ e)); apart = refl }
+    let e : differ s (differ t u) ≡ true = cc in
+    record {
+      third = ap (on X) (last u t s true (differ_comm u (differ t s)
+          ∙ ap (λ (b : Bool). differ b u) (differ_comm t s) ∙ differ_assoc s t u ∙ e));
+      apart = refl;
+    }
 right_at a b c s t u h = absurd (cc)
 
 pub right_handed : (f : Frame) → IsFrame f → IsRightHanded f

@@ -29,7 +29,9 @@ pub holds_chain : (l h m u p q : Rat) → along_holds l h m u ≡ true → along
 holds_chain l h m u p q e f =
     let a = both (rat_le l m) (rat_le u h) e in
     let b = both (rat_le m p) (rat_le q u) f in
-    pair (rat_le l p) (rat_le q h) (tells (rat_le l p) (le_trans l m p (told (rat_le l m) a.0) (told (rat_le m p) b.0))) (tells (rat_le q h) (le_trans q u h (told (rat_le q u) b.1) (told (rat_le u h) a.1)))
+    pair (rat_le l p) (rat_le q h)
+    (tells (rat_le l p) (le_trans l m p (told (rat_le l m) a.0) (told (rat_le m p) b.0)))
+    (tells (rat_le q h) (le_trans q u h (told (rat_le q u) b.1) (told (rat_le u h) a.1)))
 
 -- ---- touching
 
@@ -78,7 +80,10 @@ overlap l h m u a b p q false false e f =
     record {
       point = mediant (rat_max l m) (rat_min h u);
       first = inl (record { from = lt_of_le_lt l (rat_max l m) (mediant (rat_max l m) (rat_min h u)) above.0 w.0; to = lt_of_lt_le (mediant (rat_max l m) (rat_min h u)) (rat_min h u) h w.1 below.0 });
-      second = inl (record { from = lt_of_le_lt m (rat_max l m) (mediant (rat_max l m) (rat_min h u)) above.1 w.0; to = lt_of_lt_le (mediant (rat_max l m) (rat_min h u)) (rat_min h u) u w.1 below.1 });
+      second = inl (record {
+        from = lt_of_le_lt m (rat_max l m) (mediant (rat_max l m) (rat_min h u)) above.1 w.0;
+        to = lt_of_lt_le (mediant (rat_max l m) (rat_min h u)) (rat_min h u) u w.1 below.1;
+      });
     }
 
 one : (l h m u : Rat) → Le l h → Le l m → Le m l → Le h u → Le u h → (s : Bool) → rat_le h l ≡ s → Common l h m u
@@ -107,7 +112,8 @@ meets_at l h m u a b e =
     ]
 
 overlapping : (l h m u : Rat) → Lt l u → Lt m h → along_meets l h m u ≡ true
-overlapping l h m u p q = first_of_two (rat_lt l u && rat_lt m h) ((rat_le l m && rat_le m l) && (rat_le h u && rat_le u h)) (pair (rat_lt l u) (rat_lt m h) (tells (rat_lt l u) p) (tells (rat_lt m h) q))
+overlapping l h m u p q = first_of_two (rat_lt l u && rat_lt m h) ((rat_le l m && rat_le m l)
+    && (rat_le h u && rat_le u h)) (pair (rat_lt l u) (rat_lt m h) (tells (rat_lt l u) p) (tells (rat_lt m h) q))
 
 pub meets_from : (x l h m u : Rat) → IsInside x l h → IsInside x m u → along_meets l h m u ≡ true
 meets_from x l h m u (inl a) (inl b) = overlapping l h m u (lt_trans l x u a.from b.to) (lt_trans m x h b.from a.to)
@@ -122,14 +128,18 @@ meets_from x l h m u (inr a) (inr b) =
     let ml : Le m l = le_trans m x l mx (le_trans x h l xh a.flat) in
     let hu : Le h u = le_trans h l u a.flat (le_trans l x u lx xu) in
     let uh : Le u h = le_trans u m h b.flat (le_trans m x h mx xh) in
-    second_of_two (rat_lt l u && rat_lt m h) ((rat_le l m && rat_le m l) && (rat_le h u && rat_le u h)) (pair (rat_le l m && rat_le m l) (rat_le h u && rat_le u h) (pair (rat_le l m) (rat_le m l) (tells (rat_le l m) lm) (tells (rat_le m l) ml)) (pair (rat_le h u) (rat_le u h) (tells (rat_le h u) hu) (tells (rat_le u h) uh)))
+    second_of_two (rat_lt l u && rat_lt m h) ((rat_le l m && rat_le m l) && (rat_le h u && rat_le u h))
+    (pair (rat_le l m && rat_le m l) (rat_le h u && rat_le u h)
+    (pair (rat_le l m) (rat_le m l) (tells (rat_le l m) lm) (tells (rat_le m l) ml))
+    (pair (rat_le h u) (rat_le u h) (tells (rat_le h u) hu) (tells (rat_le u h) uh)))
 
 -- ---- what meeting, touching and holding say of one another
 
 pub meets_touches_at : (l h m u : Rat) → Le l h → along_meets l h m u ≡ true → along_touches l h m u ≡ true
 meets_touches_at l h m u a e =
     elim (either (rat_lt l u && rat_lt m h) ((rat_le l m && rat_le m l) && (rat_le h u && rat_le u h)) e) [
-      | inl k ↦ (let p = both (rat_lt l u) (rat_lt m h) k in pair (rat_le l u) (rat_le m h) (tells (rat_le l u) (lt_le l u (told (rat_lt l u) p.0))) (tells (rat_le m h) (lt_le m h (told (rat_lt m h) p.1))))
+      | inl k ↦ (let p = both (rat_lt l u) (rat_lt m h) k in
+          pair (rat_le l u) (rat_le m h) (tells (rat_le l u) (lt_le l u (told (rat_lt l u) p.0))) (tells (rat_le m h) (lt_le m h (told (rat_lt m h) p.1))))
       | inr k ↦ (let p = both (rat_le l m && rat_le m l) (rat_le h u && rat_le u h) k in let q = both (rat_le l m) (rat_le m l) p.0 in let r = both (rat_le h u) (rat_le u h) p.1 in
           pair (rat_le l u) (rat_le m h) (tells (rat_le l u) (le_trans l h u a (told (rat_le h u) r.0))) (tells (rat_le m h) (le_trans m l h (told (rat_le m l) q.1) a)))
     ]
@@ -139,7 +149,9 @@ pub touches_up_at : (l h m u p q : Rat) → along_holds l h m u ≡ true → alo
 touches_up_at l h m u p q e f =
     let a = both (rat_le l m) (rat_le u h) e in
     let b = both (rat_le m q) (rat_le p u) f in
-    pair (rat_le l q) (rat_le p h) (tells (rat_le l q) (le_trans l m q (told (rat_le l m) a.0) (told (rat_le m q) b.0))) (tells (rat_le p h) (le_trans p u h (told (rat_le p u) b.1) (told (rat_le u h) a.1)))
+    pair (rat_le l q) (rat_le p h)
+    (tells (rat_le l q) (le_trans l m q (told (rat_le l m) a.0) (told (rat_le m q) b.0)))
+    (tells (rat_le p h) (le_trans p u h (told (rat_le p u) b.1) (told (rat_le u h) a.1)))
 
 pub hull_first : (l h m u : Rat) → along_holds (rat_min l m) (rat_max h u) l h ≡ true
 hull_first l h m u = let a = min_below l m in let b = max_above h u in pair (rat_le (rat_min l m) l) (rat_le h (rat_max h u)) (tells _ a.0) (tells _ b.0)

@@ -56,14 +56,16 @@ along f Z = f.z
 
 -- the frame with these axes, each given as a signed world axis
 abbrev pub seen_from : Signed → Signed → Signed → Axis → Signed
-seen_from x y z k = if same_axis x.axis k then record { axis = X; against = x.against } else (if same_axis y.axis k then record { axis = Y; against = y.against } else record { axis = Z; against = z.against })
+seen_from x y z k = if same_axis x.axis k then record { axis = X; against = x.against } else (if same_axis y.axis
+    k then record { axis = Y; against = y.against } else record { axis = Z; against = z.against })
 
 abbrev pub frame_of : Signed → Signed → Signed → Frame
 frame_of x y z = record { x = seen_from x y z X; y = seen_from x y z Y; z = seen_from x y z Z }
 
 -- the signed world axis along which an axis of the frame points
 abbrev pub axis_of : Frame → Axis → Signed
-axis_of f a = if same_axis f.x.axis a then record { axis = X; against = f.x.against } else (if same_axis f.y.axis a then record { axis = Y; against = f.y.against } else record { axis = Z; against = f.z.against })
+axis_of f a = if same_axis f.x.axis a then record { axis = X; against = f.x.against } else (if same_axis f.y.axis
+    a then record { axis = Y; against = f.y.against } else record { axis = Z; against = f.z.against })
 
 -- the cross product of two signed axes that lie along different axes
 abbrev pub third : Axis → Axis → Signed

@@ -152,7 +152,8 @@ module _ (v : TreeView) (areas : List Box) where
       → AddsThese (AsksNear v areas) a b
   all_areas n a b le =
       adds_like (MeetsFirst n) (AsksNear v areas) a b (λ id h. h.asker)
-      (λ id k. let at = any_at (meets (v.own id)) areas k.near in let in_list = slice_get_within areas at.0 at.1 at.2 in record { asker = k; i = at.0; area = at.1; below = omega (arith, in_list, le); at = at.2; near = at.3 })
+      (λ id k. let at = any_at (meets (v.own id)) areas k.near in let in_list = slice_get_within areas at.0 at.1
+      at.2 in record { asker = k; i = at.0; area = at.1; below = omega (arith, in_list, le); at = at.2; near = at.3 })
 
 -- ---- one piece after the other
 

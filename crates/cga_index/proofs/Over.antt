@@ -122,7 +122,8 @@ unfolding answer_over answer_of
 over_unheld v by target ns h =
     let xs = asked v by target ns in
     graded_not (list_any (λ m. meets m (v.own by) && holds m (v.own by)) xs) (list_any (λ m. meets m (v.own by)) xs)
-    (any_apart v (λ n. counts_for target (v.standing n by)) (λ m. meets m (v.own by) && holds m (v.own by)) ns (λ n w t. h n w (and_second (meets (v.own n) (v.own by)) (holds (v.own n) (v.own by)) t)))
+    (any_apart v (λ n. counts_for target (v.standing n by)) (λ m. meets m (v.own by) && holds m (v.own by)) ns
+    (λ n w t. h n w (and_second (meets (v.own n) (v.own by)) (holds (v.own n) (v.own by)) t)))
 
 -- where a node's box adds nothing, nor does its answer, whatever its standing
 pub over_adds : (v : TreeView) (by : ℕ) (target : Target) (n : ℕ) (before : Answer)

@@ -24,14 +24,17 @@ less_naturals p m d h = omega (arith, mul-pos {m = d} {n = d} h h)
 
 -- one less is less
 pub one_less : (a : Rat) → IsTrue (rat_lt (plus a (of_int (negsuc 0))) a)
-one_less a = lt_diff (plus a (of_int (negsuc 0))) a _ _ _ _ _ _ (plus_of a (of_int (negsuc 0)) _ _ _ _ _ _ (itself a) (of_int_diff (negsuc 0))) (itself a) (less_naturals (positive_part a.num) (negative_part a.num) (den a) (omega arith))
+one_less a = lt_diff (plus a (of_int (negsuc 0))) a _ _ _ _ _ _
+    (plus_of a (of_int (negsuc 0)) _ _ _ _ _ _ (itself a) (of_int_diff (negsuc 0))) (itself a)
+    (less_naturals (positive_part a.num) (negative_part a.num) (den a) (omega arith))
 
 more_naturals : (p m d : ℕ) → 0 < d → p * (d * 1) + (m * 1 + 0 * d) * d < (p * 1 + 1 * d) * d + m * (d * 1)
 more_naturals p m d h = omega (arith, mul-pos {m = d} {n = d} h h)
 
 -- one more is more
 pub one_more : (a : Rat) → IsTrue (rat_lt a (plus a (of_int (pos 1))))
-one_more a = lt_diff a (plus a (of_int (pos 1))) _ _ _ _ _ _ (itself a) (plus_of a (of_int (pos 1)) _ _ _ _ _ _ (itself a) (of_int_diff (pos 1))) (more_naturals (positive_part a.num) (negative_part a.num) (den a) (omega arith))
+one_more a = lt_diff a (plus a (of_int (pos 1))) _ _ _ _ _ _ (itself a)
+    (plus_of a (of_int (pos 1)) _ _ _ _ _ _ (itself a) (of_int_diff (pos 1))) (more_naturals (positive_part a.num) (negative_part a.num) (den a) (omega arith))
 
 -- what touches an interval meets each that it lies strictly inside of
 wide_along : (l h m u p q : Rat) → along_touches l h m u ≡ true → IsWithin m u p q → along_meets l h p q ≡ true

@@ -103,7 +103,9 @@ fn list_block<H: HullTree, T: Ledger>(
 ) -> Result<(), NoMemory>
     requires laws { IsHullTree (H.view tree.now) }
     requires block { BLOCK * block ≤ length (H.view tree.now).roots }
-    ensures { OnOk result (out.new.items ++ askers (H.view tree.now) area.now (flat_map (below (H.view tree.now) LEVELS) (drop (BLOCK * (block + 1)) (H.view tree.now).roots)) ≡ out.old.items ++ askers (H.view tree.now) area.now (flat_map (below (H.view tree.now) LEVELS) (drop (BLOCK * block) (H.view tree.now).roots))) }
+    ensures { OnOk result (out.new.items ++ askers (H.view tree.now) area.now
+        (flat_map (below (H.view tree.now) LEVELS) (drop (BLOCK * (block + 1)) (H.view tree.now).roots))
+        ≡ out.old.items ++ askers (H.view tree.now) area.now (flat_map (below (H.view tree.now) LEVELS) (drop (BLOCK * block) (H.view tree.now).roots))) }
 {
     if !tree.block_asks(block, area) {
         return Ok(());
@@ -128,7 +130,9 @@ fn list_group<H: HullTree, T: Ledger>(
 ) -> Result<(), NoMemory>
     requires laws { IsHullTree (H.view tree.now) }
     requires group { GROUP * group ≤ length (H.view tree.now).roots }
-    ensures { OnOk result (out.new.items ++ askers (H.view tree.now) area.now (flat_map (below (H.view tree.now) LEVELS) (drop (GROUP * (group + 1)) (H.view tree.now).roots)) ≡ out.old.items ++ askers (H.view tree.now) area.now (flat_map (below (H.view tree.now) LEVELS) (drop (GROUP * group) (H.view tree.now).roots))) }
+    ensures { OnOk result (out.new.items ++ askers (H.view tree.now) area.now
+        (flat_map (below (H.view tree.now) LEVELS) (drop (GROUP * (group + 1)) (H.view tree.now).roots))
+        ≡ out.old.items ++ askers (H.view tree.now) area.now (flat_map (below (H.view tree.now) LEVELS) (drop (GROUP * group) (H.view tree.now).roots))) }
 {
     if !tree.group_asks(group, area) {
         return Ok(());

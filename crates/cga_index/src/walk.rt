@@ -167,8 +167,12 @@ fn visit_block<H: HullTree, T: Ledger>(
     requires block { BLOCK * block ≤ length (H.view tree.now).roots }
     requires by { InTree (H.view tree.now) by }
     requires area { area.now ≡ (H.view tree.now).own by }
-    ensures found { join before (answer_over (H.view tree.now) by target (flat_map (below (H.view tree.now) LEVELS) (drop (BLOCK * block) (H.view tree.now).roots))) ≡ join result (answer_over (H.view tree.now) by target (flat_map (below (H.view tree.now) LEVELS) (drop (BLOCK * (block + 1)) (H.view tree.now).roots))) }
-    ensures counted { tests.new + total (reads (H.view tree.now) by LEVELS) (drop (BLOCK * (block + 1)) (H.view tree.now).roots) ≤ tests.old + total (reads (H.view tree.now) by LEVELS) (drop (BLOCK * block) (H.view tree.now).roots) }
+    ensures found { join before (answer_over (H.view tree.now) by target
+        (flat_map (below (H.view tree.now) LEVELS) (drop (BLOCK * block) (H.view tree.now).roots))) ≡ join result
+        (answer_over (H.view tree.now) by target (flat_map (below (H.view tree.now) LEVELS) (drop (BLOCK * (block + 1)) (H.view tree.now).roots))) }
+    ensures counted { tests.new + total (reads (H.view tree.now) by LEVELS)
+        (drop (BLOCK * (block + 1)) (H.view tree.now).roots) ≤ tests.old + total
+        (reads (H.view tree.now) by LEVELS) (drop (BLOCK * block) (H.view tree.now).roots) }
 {
     if is_full(before) {
         return before;
@@ -203,8 +207,12 @@ fn visit_group<H: HullTree, T: Ledger>(
     requires group { GROUP * group ≤ length (H.view tree.now).roots }
     requires by { InTree (H.view tree.now) by }
     requires area { area.now ≡ (H.view tree.now).own by }
-    ensures found { join before (answer_over (H.view tree.now) by target (flat_map (below (H.view tree.now) LEVELS) (drop (GROUP * group) (H.view tree.now).roots))) ≡ join result (answer_over (H.view tree.now) by target (flat_map (below (H.view tree.now) LEVELS) (drop (GROUP * (group + 1)) (H.view tree.now).roots))) }
-    ensures counted { tests.new + total (reads (H.view tree.now) by LEVELS) (drop (GROUP * (group + 1)) (H.view tree.now).roots) ≤ tests.old + total (reads (H.view tree.now) by LEVELS) (drop (GROUP * group) (H.view tree.now).roots) }
+    ensures found { join before (answer_over (H.view tree.now) by target
+        (flat_map (below (H.view tree.now) LEVELS) (drop (GROUP * group) (H.view tree.now).roots))) ≡ join result
+        (answer_over (H.view tree.now) by target (flat_map (below (H.view tree.now) LEVELS) (drop (GROUP * (group + 1)) (H.view tree.now).roots))) }
+    ensures counted { tests.new + total (reads (H.view tree.now) by LEVELS)
+        (drop (GROUP * (group + 1)) (H.view tree.now).roots) ≤ tests.old + total
+        (reads (H.view tree.now) by LEVELS) (drop (GROUP * group) (H.view tree.now).roots) }
 {
     if is_full(before) {
         return before;

@@ -83,7 +83,9 @@ module _ (sources : Sources) where
   run-settled n (suc k) quiet =
       let e : suc k + n ≡ suc (k + n) = omega arith in
       let still = subst (NothingWaits (derivation_of sources)) (sym (settled-reached (derivation_of sources) n k quiet)) quiet in
-      ap (run_to sources) e ∙ (ap (λ o. run_to sources (k + n) ++ step_of sources (reached (derivation_of sources) (k + n)) o) (none-next (k + n) still) ∙ (append-nil (run_to sources (k + n)) ∙ run-settled n k quiet))
+      ap (run_to sources) e ∙ (ap (λ o. run_to sources (k + n)
+      ++ step_of sources (reached (derivation_of sources) (k + n)) o) (none-next (k + n) still)
+      ∙ (append-nil (run_to sources (k + n)) ∙ run-settled n k quiet))
 
   -- the turn after n turns adds its step
   pub run-next : (n : ℕ) (m : Member) → next_of (derivation_of sources) (reached (derivation_of sources) n) ≡ Some m
@@ -165,7 +167,13 @@ module _ (sources : Sources) where
     run-ended quiet more = (
       run_to sources i,
       (i, quiet, refl),
-      (i, refl, take-end (run_to sources i) i (subst (λ n. n ≤ i) (sym long) (omega arith)) ∙ along, λ same. there steps i more (sym same ∙ get-end (run_to sources i) i (subst (λ n. n ≤ i) (sym long) (omega arith)))),
+      (
+        i,
+        refl,
+        take-end (run_to sources i) i (subst (λ n. n ≤ i) (sym long) (omega arith))
+            ∙ along,
+        λ same. there steps i more (sym same ∙ get-end (run_to sources i) i (subst (λ n. n ≤ i) (sym long) (omega arith))),
+      ),
     )
       where
         there : {X : Type 0} (xs : List X) (j : ℕ) → j < length xs → slice_get xs j ≡ None → ⊥
@@ -181,9 +189,12 @@ module _ (sources : Sources) where
           let lt = later i end (is.0, is.1) quiet in
           let gap : (end - suc i) + suc i ≡ end = omega (arith, lt) in
           let more = run-more (suc i) (end - suc i) in
-          let whole : run_to sources end ≡ run_to sources i ++ step ∷ more.0 = ap (run_to sources) (sym gap) ∙ (more.1 ∙ (ap (λ l. l ++ more.0) (run-step i step is) ∙ append_assoc_one (run_to sources i) (step ∷ []) more.0)) in
-          let same : take i (run_to sources end) ≡ run_to sources i = ap (take i) whole ∙ (ap (λ n. take n (run_to sources i ++ step ∷ more.0)) (sym long) ∙ take-append (run_to sources i) (step ∷ more.0)) in
-          let here : slice_get (run_to sources end) i ≡ Some step = ap (λ l. slice_get l i) whole ∙ (ap (slice_get (run_to sources i ++ step ∷ more.0)) (sym long) ∙ get-append (run_to sources i) more.0 step) in
+          let whole : run_to sources end ≡ run_to sources i ++ step ∷ more.0 = ap (run_to sources) (sym gap)
+          ∙ (more.1 ∙ (ap (λ l. l ++ more.0) (run-step i step is) ∙ append_assoc_one (run_to sources i) (step ∷ []) more.0)) in
+          let same : take i (run_to sources end) ≡ run_to sources i = ap (take i) whole
+          ∙ (ap (λ n. take n (run_to sources i ++ step ∷ more.0)) (sym long) ∙ take-append (run_to sources i) (step ∷ more.0)) in
+          let here : slice_get (run_to sources end) i ≡ Some step = ap (λ l. slice_get l i) whole
+          ∙ (ap (slice_get (run_to sources i ++ step ∷ more.0)) (sym long) ∙ get-append (run_to sources i) more.0 step) in
           (run_to sources end, (end, quiet, refl), (i, refl, same ∙ along, λ eq. differ (sym eq ∙ here)))
 
 -- a derivation within a budget ends after at most so many turns
@@ -191,7 +202,10 @@ pub ends_by : (sources : Sources) → NamesDiffer sources.lots → (budget : ℕ
     → derive (derivation_of sources) budget ≡ Some list
     → (n : ℕ) × (n ≤ budget) × NothingWaits (derivation_of sources) (reached (derivation_of sources) n)
 ends_by sources differ budget list e =
-    let h = subst (λ o. MatchOption o ((n : ℕ) × (budget < length (reached (derivation_of sources) n))) (λ l. ((m : ℕ) → length (reached (derivation_of sources) m) ≤ budget) × ((n : ℕ) × (n ≤ budget) × (l ≡ reached (derivation_of sources) n) × NothingWaits (derivation_of sources) l))) e (says (derivation_of sources) (sources_are_derivations sources differ) budget) in
+    let h = subst (λ o. MatchOption o ((n : ℕ) × (budget < length (reached (derivation_of sources) n)))
+    (λ l. ((m : ℕ) → length (reached (derivation_of sources) m) ≤ budget)
+    × ((n : ℕ) × (n ≤ budget) × (l ≡ reached (derivation_of sources) n) × NothingWaits (derivation_of sources)
+    l))) e (says (derivation_of sources) (sources_are_derivations sources differ) budget) in
     (h.1.0, h.1.1, subst (NothingWaits (derivation_of sources)) h.1.2 h.1.3)
 
 -- after as many turns as a budget
@@ -218,7 +232,9 @@ pub within_more : (sources : Sources) → NamesDiffer sources.lots → (budget m
 within_more sources differ budget most within less =
     let d = derivation_of sources in
     let list = some_of (derive d budget) within in
-    let h = subst (λ o. MatchOption o ((n : ℕ) × (budget < length (reached d n))) (λ l. ((m : ℕ) → length (reached d m) ≤ budget) × ((n : ℕ) × (n ≤ budget) × (l ≡ reached d n) × NothingWaits d l))) list.1 (says d (sources_are_derivations sources differ) budget) in
+    let h = subst (λ o. MatchOption o ((n : ℕ) × (budget < length (reached d n)))
+    (λ l. ((m : ℕ) → length (reached d m) ≤ budget)
+    × ((n : ℕ) × (n ≤ budget) × (l ≡ reached d n) × NothingWaits d l))) list.1 (says d (sources_are_derivations sources differ) budget) in
     let few = h.0 h.1.0 in
     let is = derive-some d most h.1.0 (omega (arith, h.1.1, less)) (subst (NothingWaits d) h.1.2 h.1.3) (omega (arith, few, less)) in
     subst (λ o. IsSome o) (sym is) refl

@@ -191,7 +191,8 @@ module _ (H J : ℕ → Option Hulls) (id : ℕ) (old new : Hulls) (was : H id �
         let same = alike_probed p h (over H own xs (length xs)) a in
         bool_same (probed p (with_hulls h (Some new))) (probed p (over J own xs (length xs)))
         (λ t. let r = probed_apart p h new t in let u = sym same ∙ r.0 in over_all p J own xs (length xs) (over_own p H own xs (length xs) u) (forth u r.1))
-        (λ t. probed_both p h new (same ∙ over_all p H own xs (length xs) (over_own p J own xs (length xs) t) (back t)) (over_child p J own xs (length xs) t place id new (within xs place id at) at is))
+        (λ t. probed_both p h new (same ∙ over_all p H own xs (length xs) (over_own p J own xs (length xs) t)
+        (back t)) (over_child p J own xs (length xs) t place id new (within xs place id at) at is))
 
   -- the old hulls of all and the child's new ones are together alike with the new hulls of all
   pub grown_alike : (h : Hulls) → alike h (over H own xs (length xs)) ≡ true

@@ -48,7 +48,8 @@ module _ (text : List ℕ) (some : 0 < run is_ascii_digit text) where
       let ds = take (suc n) cs in
       let l : length ds ≡ suc n = omega (arith, length-take (suc n) cs, run_within is_ascii_digit cs, r) in
       let all : list_all is_ascii_digit ds ≡ true = subst (λ m. list_all is_ascii_digit (take m cs) ≡ true) r (all_run is_ascii_digit cs) in
-      let taken : take (run is_ascii_digit text + suc (suc n)) text ≡ before text ++ 46 ∷ ds = take_further (run is_ascii_digit text) (suc (suc n)) text within ∙ ap (λ z. before text ++ take (suc (suc n)) z) e in
+      let taken : take (run is_ascii_digit text + suc (suc n)) text ≡ before text ++ 46
+      ∷ ds = take_further (run is_ascii_digit text) (suc (suc n)) text within ∙ ap (λ z. before text ++ take (suc (suc n)) z) e in
       let rest : cs ≡ drop (run is_ascii_digit text + 1) text = sym (ap (drop 1) e) ∙ drop-drop 1 (run is_ascii_digit text) text in
       ap decimal_of taken ∙ reads_parts (before text) ds (omega (arith, before_length)) (all_run is_ascii_digit text) (omega (arith, l)) all (omega (arith, before_length, l))
       ∙ ap (λ z. Ok (value_of (before text) (take (suc n) z))) rest

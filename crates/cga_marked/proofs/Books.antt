@@ -16,7 +16,8 @@ same_but f slots now id others here c = elim (nat_cases c id) [
   | inr n ↦ ap f (others c n)
 ]
 
-module _ {E : Type 0} {touched aside : E → Bool} {Plain : E → Type 0} {slots : List (Option E)} {list : List ℕ} {cap gone : ℕ} (b : IsStore touched aside Plain slots list cap gone) (now : List (Option E)) where
+module _ {E : Type 0} {touched aside : E → Bool} {Plain : E → Type 0} {slots : List (Option E)} {list : List ℕ}
+    {cap gone : ℕ} (b : IsStore touched aside Plain slots list cap gone) (now : List (Option E)) where
   pub is_listed : Listed touched Plain slots list
   is_listed id e t = elim (bool_cases (touched e)) [
     | inl y ↦ inl (b.listed id e t y)
@@ -35,7 +36,8 @@ module _ {E : Type 0} {touched aside : E → Bool} {Plain : E → Type 0} {slots
   }
 
   -- all is swept
-  module _ (calm : (id : ℕ) (e : E) → slot now id ≡ Some e → IsCalm touched Plain e) (shown : (e : E) → Plain e → aside e ≡ false) (fewer : (c : ℕ) → is_some (slot now c) ≡ true → is_some (slot slots c) ≡ true) where
+  module _ (calm : (id : ℕ) (e : E) → slot now id ≡ Some e → IsCalm touched Plain e) (shown : (e : E) → Plain e
+      → aside e ≡ false) (fewer : (c : ℕ) → is_some (slot now c) ≡ true → is_some (slot slots c) ≡ true) where
     swept_none : (p : E → Bool) → ((e : E) → IsCalm touched Plain e → p e ≡ false) → (c : ℕ) (s : Option E)
         → slot now c ≡ s → passes p (slot now c) ≡ false
     swept_none p h c None q = ap (passes p) q

@@ -68,7 +68,9 @@ is_put (e ∷ es) name id = elim (either (same_name name e.0)) [
   | inl y ↦ rw y (put_first e es name id (sym (name_sound name e.0 y)))
   | inr n ↦ (
       let k : suc (position_or_len (same_name name) (names es)) ≡ 1 + position_or_len (same_name name) (names es) = omega arith in
-      rw n (subst (λ p. IsPut (e ∷ es) (e ∷ insert_entry same_name es name id) name id p (lookup (same_name name) es)) k (put_later e es (insert_entry same_name es name id) name id (position_or_len (same_name name) (names es)) (lookup (same_name name) es) (is_put es name id))))
+      rw n (subst (λ p. IsPut (e ∷ es) (e ∷ insert_entry same_name es name id) name id p
+      (lookup (same_name name) es)) k (put_later e es (insert_entry same_name es name id) name id
+      (position_or_len (same_name name) (names es)) (lookup (same_name name) es) (is_put es name id))))
 ]
 
 -- a name that isn't among the first so many stands behind them, or nowhere
@@ -218,7 +220,9 @@ apart_moved es rest a p = IsDistinct-IsPermutation same_name name_order (names r
 -- a name that isn't there
 pub apart_out : (es rest : Named) (name : List ℕ) (c : ℕ) → AreApart es → IsPermutation es ((name, c) ∷ rest)
     → AllByRecursion (λ y. same_name name y ≡ false) (names rest)
-apart_out es rest name c a p = IsDistinct-head same_name name (names rest) (IsDistinct-IsPermutation same_name name_order (names es) (names ((name, c) ∷ rest)) (IsPermutation-map (λ (e : List ℕ × ℕ). e.0) es ((name, c) ∷ rest) p) a)
+apart_out es rest name c a p = IsDistinct-head same_name name (names rest)
+    (IsDistinct-IsPermutation same_name name_order (names es) (names ((name, c) ∷ rest))
+    (IsPermutation-map (λ (e : List ℕ × ℕ). e.0) es ((name, c) ∷ rest) p) a)
 
 -- an entry that is left was there
 pub out_still : (es rest : Named) (gone : List ℕ × ℕ) → IsPermutation es (gone ∷ rest) → (e : List ℕ × ℕ)

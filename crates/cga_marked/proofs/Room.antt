@@ -16,7 +16,9 @@ module _ {E : Type 0} where
       → tally is_some slots ≡ tally (passes (λ e. not (aside e))) slots + tally (passes aside) slots
   split_shown aside [] = refl
   split_shown aside (None ∷ rest) = let r = split_shown aside rest in omega arith
-  split_shown aside (Some e ∷ rest) = let r = split_shown aside rest in elim (aside e) as (λ b. 1 + tally is_some rest ≡ (cond (not b) 1 0 + tally (passes (λ e. not (aside e))) rest) + (cond b 1 0 + tally (passes aside) rest)) [ true ↦ omega arith | false ↦ omega arith ]
+  split_shown aside (Some e ∷ rest) = let r = split_shown aside rest in
+      elim (aside e) as (λ b. 1 + tally is_some rest ≡ (cond (not b) 1 0 + tally (passes (λ e. not (aside e)))
+      rest) + (cond b 1 0 + tally (passes aside) rest)) [ true ↦ omega arith | false ↦ omega arith ]
 
   pub few_passing : (p : E → Bool) (slots : List (Option E)) → tally (passes p) slots ≤ tally is_some slots
   few_passing p slots = tally_mono (passes p) is_some refl slots slots refl (λ c h. passes_some p (slot slots c) h)

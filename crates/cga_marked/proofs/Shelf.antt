@@ -104,7 +104,8 @@ module _ (s : Shelf) (put : Named) (name : List ℕ) (id place : ℕ) (former : 
   push_listed : take (s.shown + 1) filled ≡ swap (listed s ++ (name, id) ∷ []) gap s.shown
   push_listed =
       take_swap brought (s.shown + 1) gap s.shown (name, id) (omega (arith, low)) (omega arith) (omega (arith, long))
-      ∙ ap (λ l. swap l gap s.shown) (take_brought put s.shown place (name, id) c.behind c.stands.within (sym (get_or_from_slice_get put place (name, id) (name, id) c.stands.here)) ∙ ap (λ l. l ++ (name, id) ∷ []) (c.stands.front s.shown c.behind))
+      ∙ ap (λ l. swap l gap s.shown) (take_brought put s.shown place (name, id) c.behind c.stands.within
+      (sym (get_or_from_slice_get put place (name, id) (name, id) c.stands.here)) ∙ ap (λ l. l ++ (name, id) ∷ []) (c.stands.front s.shown c.behind))
 
   push_undone : undo (Created place former gap) pushed_shelf ≡ s
   push_undone =
@@ -214,7 +215,8 @@ taken_out es new shown i name c steps more within at moved ready noting =
     rw (moved, noting) (
       record {
         within = omega (arith, n, within);
-        ready = noted_ready steps (Removed i) (record { entries = es; shown = shown }) (record { entries = swap es i (shown - 1); shown = shown - 1 }) back (out_undoable es shown i name c f.0 within f.1) ready;
+        ready = noted_ready steps (Removed i) (record { entries = es; shown = shown })
+            (record { entries = swap es i (shown - 1); shown = shown - 1 }) back (out_undoable es shown i name c f.0 within f.1) ready;
         former = noted steps (Removed i) (record { entries = es; shown = shown }) (record { entries = swap es i (shown - 1); shown = shown - 1 }) back;
       },
       out_listed es shown i name c f.0 within f.1,

@@ -30,7 +30,8 @@ module _ {E : Type 0} (g : Option E → Option E) (twice : (s : Option E) → g 
       }
 
 -- f makes each entry calm, and leaves those alone that are
-module _ {E : Type 0} (touched : E → Bool) (Plain : E → Type 0) (f : E → Option E) (calm : (e : E) → IsCalm touched Plain e → f e ≡ Some e) (makes : (e : E) → IfSome (f e) (IsCalm touched Plain)) where
+module _ {E : Type 0} (touched : E → Bool) (Plain : E → Type 0) (f : E → Option E)
+    (calm : (e : E) → IsCalm touched Plain e → f e ≡ Some e) (makes : (e : E) → IfSome (f e) (IsCalm touched Plain)) where
   made : (o : Option E) (e : E) → o ≡ Some e → IfSome o (IsCalm touched Plain) → IsCalm touched Plain e
   made None e q h = absurd (cc)
   made (Some x) e q h = let w : x ≡ e = (cc) in subst (IsCalm touched Plain) w h

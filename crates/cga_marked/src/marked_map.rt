@@ -27,7 +27,13 @@ impl Model for MarkedMap {
 
     ghost Value = { MapView };
 
-    ghost view = { λ r. record { list = listed (record { entries = r.map.entries; shown = r.shown }); former = listed (undone r.steps.items (record { entries = r.map.entries; shown = r.shown })); spare = spare r.map; noted = length r.steps.items; cap = r.steps.cap } };
+    ghost view = { λ r. record {
+      list = listed (record { entries = r.map.entries; shown = r.shown });
+      former = listed (undone r.steps.items (record { entries = r.map.entries; shown = r.shown }));
+      spare = spare r.map;
+      noted = length r.steps.items;
+      cap = r.steps.cap;
+    } };
 
     ghost invariant = { λ r. IsMap (record { entries = r.map.entries; shown = r.shown }) r.steps.items r.steps.cap };
 }

@@ -122,7 +122,8 @@ drawn d h =
     let at = point_text d.scope.at in let size = point_text d.scope.size in let frame = axes_text d.scope.frame in
     let one = d.lot ++ codes " " in let two = one ++ d.symbol in let three = two ++ codes " " in
     let four = three ++ primitive_word d.primitive in
-    let first = both three (primitive_word d.primitive) (both two (codes " ") (both one d.symbol (both d.lot (codes " ") (name d.lot h.lot) blank) (name d.symbol h.symbol)) blank) (solid d.primitive) in
+    let first = both three (primitive_word d.primitive)
+    (both two (codes " ") (both one d.symbol (both d.lot (codes " ") (name d.lot h.lot) blank) (name d.symbol h.symbol)) blank) (solid d.primitive) in
     both ((four ++ at) ++ frame) size (both (four ++ at) frame (both four at first (point d.scope.at)) (axes d.scope.frame)) (point d.scope.size)
 
 -- ---- lines of a text

@@ -55,8 +55,11 @@ others_same : (lot : List ℕ) (lots : List (List ℕ)) (own rest : List Drawn)
     → AllByRecursion (λ y. bytes_eq lot y ≡ false) lots → AllByRecursion (λ d. d.lot ≡ lot) own
     → AllByRecursion (λ l. drawn_of l (own ++ rest) ≡ drawn_of l rest) lots
 others_same lot [] own rest a h = tt
-others_same lot (l ∷ ls) own rest a h =
-    (filter-append (is_of l) own rest ∙ ap (λ (t : List Drawn). t ++ drawn_of l rest) (filter_none (is_of l) own (others_fail l lot own (bytes_eq-false_back lot l a.0) h)), others_same lot ls own rest a.1 h)
+others_same lot (l ∷ ls) own rest a h = (
+  filter-append (is_of l) own rest ∙ ap (λ (t : List Drawn). t ++ drawn_of l rest)
+      (filter_none (is_of l) own (others_fail l lot own (bytes_eq-false_back lot l a.0) h)),
+  others_same lot ls own rest a.1 h,
+)
 
 texts_same : (mesh : Shown) (decimals before : ℕ) (lots : List (List ℕ)) (xs ys : List Drawn)
     → AllByRecursion (λ l. drawn_of l xs ≡ drawn_of l ys) lots

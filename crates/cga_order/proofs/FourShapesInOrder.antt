@@ -126,9 +126,21 @@ four_shapes =
     let third = done a ∷ waiting b ∷ done c ∷ waiting d ∷ [] in
     let fourth = done a ∷ waiting b ∷ done c ∷ done d ∷ [] in
     let one : IsStep world first second a = record { waits = inl (refl, refl); least = of_all (NotBefore world a) first (λ e. itself, tt); told = refl } in
-    let two : IsStep world second third c = record { waits = inr (inr (inl (refl, refl))); least = of_all (NotBefore world c) second (λ e. is_done e, (λ e. greater, (λ e. itself, tt))); told = refl } in
-    let three : IsStep world third fourth d = record { waits = inr (inr (inr (inl (refl, refl)))); least = of_all (NotBefore world d) third (λ e. is_done e, (λ e. greater, (λ e. is_done e, (λ e. itself, tt)))); told = refl } in
-    let four : IsStep world fourth all_done b = record { waits = inr (inl (refl, refl)); least = of_all (NotBefore world b) fourth (λ e. is_done e, (λ e. itself, (λ e. is_done e, (λ e. is_done e, tt)))); told = refl } in
+    let two : IsStep world second third c = record {
+      waits = inr (inr (inl (refl, refl)));
+      least = of_all (NotBefore world c) second (λ e. is_done e, (λ e. greater, (λ e. itself, tt)));
+      told = refl;
+    } in
+    let three : IsStep world third fourth d = record {
+      waits = inr (inr (inr (inl (refl, refl))));
+      least = of_all (NotBefore world d) third (λ e. is_done e, (λ e. greater, (λ e. is_done e, (λ e. itself, tt))));
+      told = refl;
+    } in
+    let four : IsStep world fourth all_done b = record {
+      waits = inr (inl (refl, refl));
+      least = of_all (NotBefore world b) fourth (λ e. is_done e, (λ e. itself, (λ e. is_done e, (λ e. is_done e, tt))));
+      told = refl;
+    } in
     (is_world Breadth chain_under_c children_under_c under_c, (fourth, (third, (second, (first, refl, one), two), three), four))
 
 pub two_modes : TwoModes
@@ -140,12 +152,32 @@ two_modes =
     let but_c = done a ∷ done b ∷ waiting c ∷ done d ∷ [] in
     let one : IsStep breadth first second a = record { waits = inl (refl, refl); least = of_all (NotBefore breadth a) first (λ e. itself, tt); told = refl } in
     let two : IsStep breadth second third b = record { waits = inr (inl (refl, refl)); least = of_all (NotBefore breadth b) second (λ e. is_done e, (λ e. itself, (λ e. greater, tt))); told = refl } in
-    let three : IsStep breadth third but_d c = record { waits = inr (inr (inl (refl, refl))); least = of_all (NotBefore breadth c) third (λ e. is_done e, (λ e. is_done e, (λ e. itself, (λ e. greater, tt)))); told = refl } in
-    let four : IsStep breadth but_d all_done d = record { waits = inr (inr (inr (inl (refl, refl)))); least = of_all (NotBefore breadth d) but_d (λ e. is_done e, (λ e. is_done e, (λ e. is_done e, (λ e. itself, tt)))); told = refl } in
+    let three : IsStep breadth third but_d c = record {
+      waits = inr (inr (inl (refl, refl)));
+      least = of_all (NotBefore breadth c) third (λ e. is_done e, (λ e. is_done e, (λ e. itself, (λ e. greater, tt))));
+      told = refl;
+    } in
+    let four : IsStep breadth but_d all_done d = record {
+      waits = inr (inr (inr (inl (refl, refl))));
+      least = of_all (NotBefore breadth d) but_d (λ e. is_done e, (λ e. is_done e, (λ e. is_done e, (λ e. itself, tt))));
+      told = refl;
+    } in
     let first_down : IsStep depth first second a = record { waits = inl (refl, refl); least = of_all (NotBefore depth a) first (λ e. itself, tt); told = refl } in
-    let second_down : IsStep depth second third b = record { waits = inr (inl (refl, refl)); least = of_all (NotBefore depth b) second (λ e. is_done e, (λ e. itself, (λ e. greater, tt))); told = refl } in
-    let third_down : IsStep depth third but_c d = record { waits = inr (inr (inr (inl (refl, refl)))); least = of_all (NotBefore depth d) third (λ e. is_done e, (λ e. is_done e, (λ e. greater, (λ e. itself, tt)))); told = refl } in
-    let fourth_down : IsStep depth but_c all_done c = record { waits = inr (inr (inl (refl, refl))); least = of_all (NotBefore depth c) but_c (λ e. is_done e, (λ e. is_done e, (λ e. itself, (λ e. is_done e, tt)))); told = refl } in
+    let second_down : IsStep depth second third b = record {
+      waits = inr (inl (refl, refl));
+      least = of_all (NotBefore depth b) second (λ e. is_done e, (λ e. itself, (λ e. greater, tt)));
+      told = refl;
+    } in
+    let third_down : IsStep depth third but_c d = record {
+      waits = inr (inr (inr (inl (refl, refl))));
+      least = of_all (NotBefore depth d) third (λ e. is_done e, (λ e. is_done e, (λ e. greater, (λ e. itself, tt))));
+      told = refl;
+    } in
+    let fourth_down : IsStep depth but_c all_done c = record {
+      waits = inr (inr (inl (refl, refl)));
+      least = of_all (NotBefore depth c) but_c (λ e. is_done e, (λ e. is_done e, (λ e. itself, (λ e. is_done e, tt))));
+      told = refl;
+    } in
     record {
       breadth = (is_world Breadth chain_under_b children_under_b under_b, (but_d, (third, (second, (first, refl, one), two), three), four));
       depth = (is_world Depth chain_under_b children_under_b under_b, (but_c, (third, (second, (first, refl, first_down), second_down), third_down), fourth_down));

@@ -100,7 +100,8 @@ module _ {R : Type 0} (cmp : R → R → Ordering) (o : IsTotalOrder cmp) where
       both_at : (us vs us' vs' xs ys : List R) → us' ≡ us → vs' ≡ vs
           → cmps us vs ≡ ordering_then (heads_cmp us vs) (cmps xs ys)
           → cmps us' vs' ≡ ordering_then (heads_cmp us' vs') (cmps xs ys)
-      both_at us vs us' vs' xs ys e f h = subst (λ u. cmps u vs' ≡ ordering_then (heads_cmp u vs') (cmps xs ys)) (sym e) (subst (λ v. cmps us v ≡ ordering_then (heads_cmp us v) (cmps xs ys)) (sym f) h)
+      both_at us vs us' vs' xs ys e f h = subst (λ u. cmps u vs' ≡ ordering_then (heads_cmp u vs') (cmps xs ys))
+          (sym e) (subst (λ v. cmps us v ≡ ordering_then (heads_cmp us v) (cmps xs ys)) (sym f) h)
 
       grown_left : (x : R) (xs ys : List R) → TiesNone x ys
           → cmps (x ∷ xs) ys ≡ ordering_then (heads_cmp (x ∷ xs) ys) (cmps xs ys)

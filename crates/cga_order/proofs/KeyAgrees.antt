@@ -26,4 +26,7 @@ cmp_at Depth c d = refl
 pub agrees : (mode : Mode) (a b : StampKey) → a.mode ≡ mode → b.mode ≡ mode
     → key_cmp a b ≡ stamp_cmp mode (chain_of_key a) (chain_of_key b)
 agrees mode a b p q =
-    (λ i. ordering_then (nat_cmp (mode_number (p i)) (mode_number (q i))) (ordering_then (stamps_cmp Breadth (stamp_in Breadth (p i) (chain_of_key a)) (stamp_in Breadth (q i) (chain_of_key b))) (stamps_cmp Depth (stamp_in Depth (p i) (chain_of_key a)) (stamp_in Depth (q i) (chain_of_key b))))) ∙ cmp_at mode (chain_of_key a) (chain_of_key b)
+    (λ i. ordering_then (nat_cmp (mode_number (p i)) (mode_number (q i)))
+    (ordering_then (stamps_cmp Breadth (stamp_in Breadth (p i) (chain_of_key a))
+    (stamp_in Breadth (q i) (chain_of_key b))) (stamps_cmp Depth (stamp_in Depth (p i) (chain_of_key a))
+    (stamp_in Depth (q i) (chain_of_key b))))) ∙ cmp_at mode (chain_of_key a) (chain_of_key b)

@@ -208,7 +208,8 @@ module _ {R : Type 0} (cmp : R → R → Ordering) (o : IsTotalOrder cmp) where
       → (a : R) × In a A × (cmp a s ≡ Less)
   both xs x s [] d go e f = let g : Greater ≡ Less = e in cc
   both xs x s (a ∷ A) d go e f = elim (cmp x a) as (λ v. cmp x a ≡ v → ordering_then v (cmps (maxima cmp xs) A) ≡ Less → (b : R) × In b (a ∷ A) × (cmp b s ≡ Less)) [
-    | Less ↦ λ h k. let g : ordering_then Greater (cmps A (maxima cmp (xs ++ s ∷ []))) ≡ Less = sym (ap (λ c. ordering_then c (cmps A (maxima cmp (xs ++ s ∷ [])))) (o.antisymm a x ∙ ap ordering_reverse h)) ∙ f in cc
+    | Less ↦ λ h k. let g : ordering_then Greater (cmps A (maxima cmp (xs ++ s ∷ []))) ≡ Less = sym
+        (ap (λ c. ordering_then c (cmps A (maxima cmp (xs ++ s ∷ [])))) (o.antisymm a x ∙ ap ordering_reverse h)) ∙ f in cc
     | Equal ↦ λ h k. let w = go A k (sym (ap (λ c. ordering_then c (cmps A (maxima cmp (xs ++ s ∷ [])))) (o.antisymm a x ∙ ap ordering_reverse h)) ∙ f) in (w.0, inr w.1, w.2)
     | Greater ↦ λ h k. let g : Greater ≡ Less = k in cc
   ] refl e

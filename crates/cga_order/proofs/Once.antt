@@ -31,8 +31,13 @@ module _ {X : Type 0} where
   without (z ∷ xs) x h = elim h [
     | inl e ↦ (xs, omega arith, (λ y i. elim i [ inl f ↦ inl (sym f ∙ e) | inr r ↦ inr r ]), λ f. sum_cons f z xs ∙ ap (λ y. f y + sum_by f xs) e)
     | inr r ↦
-        let w = without xs x r in
-        (z ∷ w.0, omega (arith, w.1), (λ y i. elim i [ inl f ↦ inr (inl f) | inr j ↦ elim (w.2 y j) [ inl e ↦ inl e | inr k ↦ inr (inr k) ] ]), λ f. omega (arith, sum_cons f z xs, sum_cons f z w.0, w.3 f))
+        let w = without xs x r in (
+          z ∷ w.0,
+          omega (arith, w.1),
+          (λ y i.
+              elim i [ inl f ↦ inr (inl f) | inr j ↦ elim (w.2 y j) [ inl e ↦ inl e | inr k ↦ inr (inr k) ] ]),
+          λ f. omega (arith, sum_cons f z xs, sum_cons f z w.0, w.3 f),
+        )
   ]
 
   sum-once : (f : X → ℕ) (xs ys : List X) → Once xs → ((x : X) → Among x xs → Among x ys) → sum_by f xs ≤ sum_by f ys
@@ -66,5 +71,8 @@ module _ {X : Type 0} where
   pub Once-index : (xs : List X) → ((x : X) (i j : ℕ) → slice_get xs i ≡ Some x → slice_get xs j ≡ Some x → i ≡ j)
       → Once xs
   Once-index [] h = tt
-  Once-index (x ∷ xs) h =
-      ((λ g. let w = Among-index xs x g in let e : 0 ≡ suc w.0 = h x 0 (suc w.0) refl w.1 in absurd (omega (arith, e))), Once-index xs (λ y i j a b. let e : suc i ≡ suc j = h y (suc i) (suc j) a b in omega (arith, e)))
+  Once-index (x ∷ xs) h = (
+    (λ g. let w = Among-index xs x g in let e : 0 ≡ suc w.0 = h x 0 (suc w.0) refl w.1 in
+        absurd (omega (arith, e))),
+    Once-index xs (λ y i j a b. let e : suc i ≡ suc j = h y (suc i) (suc j) a b in omega (arith, e)),
+  )

@@ -55,7 +55,8 @@ module _ {N A F P : Type 0} (world : World N A F P) (laws : IsWorld world) where
         ⊎ ((k : ℕ) × (i ≡ length C + k) × IsChild (world.chain s) k (world.chain m.shape))
     created_from i m e =
         let size = length-map (become world s kind) C in
-        elim (slice_get-append (map (become world s kind) C) (steps.children_of world (outcome world C s)) i m (subst (λ x. slice_get x i ≡ Some m) (step.told ∙ steps.told-is world C s (outcome world C s)) e)) [
+        elim (slice_get-append (map (become world s kind) C) (steps.children_of world (outcome world C s)) i m
+        (subst (λ x. slice_get x i ≡ Some m) (step.told ∙ steps.told-is world C s (outcome world C s)) e)) [
           | inl h ↦
               let w = slice_get-map (become world s kind) C i m h.1 in
               inl (omega (arith, h.0, size), (w.0, w.1, sym (become-shape s kind w.0) ∙ ap (λ x. x.shape) w.2))
@@ -81,7 +82,8 @@ module _ {N A F P : Type 0} (world : World N A F P) (laws : IsWorld world) where
         alike : (a a' b b' : N) → a ≡ a' → b ≡ b'
             → IsEarlier world (birth_of world a) (birth_of world b) ⊎ AreSiblings world a b
             → IsEarlier world (birth_of world a') (birth_of world b') ⊎ AreSiblings world a' b'
-        alike a a' b b' p q h = subst (λ x. IsEarlier world (birth_of world x) (birth_of world b') ⊎ AreSiblings world x b') p (subst (λ y. IsEarlier world (birth_of world a) (birth_of world y) ⊎ AreSiblings world a y) q h)
+        alike a a' b b' p q h = subst (λ x. IsEarlier world (birth_of world x) (birth_of world b')
+            ⊎ AreSiblings world x b') p (subst (λ y. IsEarlier world (birth_of world a) (birth_of world y) ⊎ AreSiblings world a y) q h)
 
   stands-start : StandsByBirth world (start world)
   stands-start i j m n e f lt past =

@@ -114,10 +114,11 @@ module _ {N A F P : Type 0} (world : World N A F P) where
       pub law : (c : N) (k : Kind F P) → Has (children_of world (outcome world C s)) c k
           → (kind_after world (outcome world C s) ≡ Done) × ((i : ℕ) × IsChild (world.chain s) i (world.chain c))
           × (IsExpanded world k → ⊥)
-      law c k h = elim (outcome world C s) as (λ r. outcome world C s ≡ r → Has (children_of world r) c k → (kind_after world r ≡ Done) × ((i : ℕ) × IsChild (world.chain s) i (world.chain c)) × (IsExpanded world k → ⊥)) [
-        | Ok cs ↦ λ e g. let u = child_of s _ cs e c k g in (refl, (u.0, u.5), fresh_kind s _ cs e c k g)
-        | Err f ↦ λ e g. absurd g
-      ] refl h
+      law c k h = elim (outcome world C s) as (λ r. outcome world C s ≡ r → Has (children_of world r) c k
+          → (kind_after world r ≡ Done) × ((i : ℕ) × IsChild (world.chain s) i (world.chain c)) × (IsExpanded world k → ⊥)) [
+            | Ok cs ↦ λ e g. let u = child_of s _ cs e c k g in (refl, (u.0, u.5), fresh_kind s _ cs e c k g)
+            | Err f ↦ λ e g. absurd g
+          ] refl h
 
       pub apart_children : (c d : N) (k j : Kind F P) → Has (children_of world (outcome world C s)) c k
           → Has (children_of world (outcome world C s)) d j → SamePlace world c d → (c ≡ d) × (k ≡ j)

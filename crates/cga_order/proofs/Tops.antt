@@ -125,8 +125,13 @@ IsTop-under mode chain depth top whole within le h =
     let below : rank_cmp mode (rank_at chain depth) (rank_at chain top) ≡ Less = elim (lt_or_eq le) [
       | inl l ↦ rank_at-priority mode chain depth top l
       | inr e ↦ rank_at-depth mode chain depth top e (omega (arith, h.0)) (omega (arith, whole, h.1))
-    ] in
-    (omega (arith, h.0), h.1, h.2, ap (maxima (rank_cmp mode)) (ranks_from-step chain depth within) ∙ (heads.maxima-under (rank_cmp mode) (rank_total mode) (rank_at chain depth) (ranks_from chain (depth + 1)) (rank_at chain top) h.2 h.3 below ∙ h.3))
+    ] in (
+      omega (arith, h.0),
+      h.1,
+      h.2,
+      ap (maxima (rank_cmp mode)) (ranks_from-step chain depth within)
+          ∙ (heads.maxima-under (rank_cmp mode) (rank_total mode) (rank_at chain depth) (ranks_from chain (depth + 1)) (rank_at chain top) h.2 h.3 below ∙ h.3),
+    )
   where
     lt_or_eq : {m n : ℕ} → m ≤ n → (m < n) ⊎ (m ≡ n)
     lt_or_eq {m = m} {n = n} le = elim (nat_cmp m n) as (λ v. MatchOrdering v (m < n) (m ≡ n) (n < m) → (m < n) ⊎ (m ≡ n)) [
@@ -138,15 +143,23 @@ IsTop-under mode chain depth top whole within le h =
 pub IsTop-over : (mode : Mode) (chain : Chain) (depth top : ℕ) → depth < length chain.priorities
     → slice_index chain.priorities top < slice_index chain.priorities depth → IsTop mode chain (depth + 1) (Some top)
     → IsTop mode chain depth (Some depth)
-IsTop-over mode chain depth top within lt h =
-    (omega arith, within, maxima (rank_cmp mode) (ranks_from chain (depth + 1)), ap (maxima (rank_cmp mode)) (ranks_from-step chain depth within) ∙ heads.maxima-over (rank_cmp mode) (rank_total mode) (rank_at chain depth) (ranks_from chain (depth + 1)) (rank_at chain top) h.2 h.3 (rank_at-priority mode chain top depth lt))
+IsTop-over mode chain depth top within lt h = (
+  omega arith,
+  within,
+  maxima (rank_cmp mode) (ranks_from chain (depth + 1)),
+  ap (maxima (rank_cmp mode))
+      (ranks_from-step chain depth within) ∙ heads.maxima-over (rank_cmp mode) (rank_total mode)
+      (rank_at chain depth) (ranks_from chain (depth + 1)) (rank_at chain top) h.2 h.3 (rank_at-priority mode chain top depth lt),
+)
 
 -- the maxima from one depth on are those from the next on, with one more or not
 Extends-ranks_from : (mode : Mode) (chain : Chain) (depth : ℕ)
     → heads.Extends (rank_cmp mode) (rank_total mode) (rank_at chain depth)
     (maxima (rank_cmp mode) (ranks_from chain (depth + 1))) (maxima (rank_cmp mode) (ranks_from chain depth))
 Extends-ranks_from mode chain depth = elim (within_or_past depth (length chain.priorities)) [
-  | inl within ↦ subst (λ rs. heads.Extends (rank_cmp mode) (rank_total mode) (rank_at chain depth) (maxima (rank_cmp mode) (ranks_from chain (depth + 1))) (maxima (rank_cmp mode) rs)) (sym (ranks_from-step chain depth within)) (heads.Extends-maxima (rank_cmp mode) (rank_total mode) (rank_at chain depth) (ranks_from chain (depth + 1)))
+  | inl within ↦ subst (λ rs. heads.Extends (rank_cmp mode) (rank_total mode) (rank_at chain depth)
+      (maxima (rank_cmp mode) (ranks_from chain (depth + 1))) (maxima (rank_cmp mode) rs))
+      (sym (ranks_from-step chain depth within)) (heads.Extends-maxima (rank_cmp mode) (rank_total mode) (rank_at chain depth) (ranks_from chain (depth + 1)))
   | inr past ↦ inr (ap (maxima (rank_cmp mode)) (ranks_from-end chain depth past ∙ sym (ranks_from-end chain (depth + 1) (omega (arith, past)))))
 ]
   where

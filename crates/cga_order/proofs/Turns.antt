@@ -39,7 +39,8 @@ module _ {N A F P : Type 0} (world : World N A F P) (laws : IsWorld world) where
 
   -- what n sees and exists at its stamp in the one list is in the other, an instance in both or in neither
   abbrev pub SameAt : N → Nodes → Nodes → Type 0
-  SameAt n xs ys = (m : N) (k : Kind F P) (a : A) → world.sees n m ≡ true → IsEarlier world (birth_of world m) (stamp_of world n) → Keeps xs m k a → (j : Kind F P) × (b : A) × Keeps ys m j b × (is_instance j ≡ is_instance k)
+  SameAt n xs ys = (m : N) (k : Kind F P) (a : A) → world.sees n m ≡ true → IsEarlier world (birth_of world m)
+      (stamp_of world n) → Keeps xs m k a → (j : Kind F P) × (b : A) × Keeps ys m j b × (is_instance j ≡ is_instance k)
 
   existing-on : (n : N) (xs ys : Nodes) → SameAt n xs ys → (m : N) → world.sees n m ≡ true
       → Among m (shapes_where (exists_at world n) (members_of xs))
@@ -186,7 +187,9 @@ module _ {N A F P : Type 0} (world : World N A F P) (laws : IsWorld world) where
     ]
 
   -- a list that is right as far as a limit is consistent that far
-  module _ (nodes : Nodes) (queued : N → Bool) (limit : Option (List Rank)) (tree : IsTree world nodes) (right : AllRight world nodes queued) (late : (n : N) (k : Kind F P) (a : A) → Keeps nodes n k a → queued n ≡ true → IsBefore world limit (stamp_of world n) → ⊥) where
+  module _ (nodes : Nodes) (queued : N → Bool) (limit : Option (List Rank)) (tree : IsTree world nodes)
+      (right : AllRight world nodes queued) (late : (n : N) (k : Kind F P) (a : A) → Keeps nodes n k a
+      → queued n ≡ true → IsBefore world limit (stamp_of world n) → ⊥) where
     settled : (n : N) (k : Kind F P) (a : A) → Keeps nodes n k a → is_instance k ≡ false
         → IsBefore world limit (stamp_of world n) → IsRight world nodes n k a
     settled n k a h i before = elim (right n k a h i) [ inl q ↦ absurd (late n k a h q before) | inr r ↦ r ]

@@ -11,7 +11,8 @@ use Rattle.cga_parser.proofs.Rules.{rule_reads}
 pub attribute_reads : (n : ℕ) → Reads n n b.attribute_pieces b.attribute
 unfolding b.attribute
 attribute_reads n =
-    next (one_token (word_token (codes "attr") n refl)) (λ _. next (one_token (name_token n)) (λ x. next (one_token (sign_token Usual s.Assign n n refl refl)) (λ _. next (value_reads n) (λ v. done refl))))
+    next (one_token (word_token (codes "attr") n refl))
+    (λ _. next (one_token (name_token n)) (λ x. next (one_token (sign_token Usual s.Assign n n refl refl)) (λ _. next (value_reads n) (λ v. done refl))))
 
 pub priority_reads : (n : ℕ) → Reads n n b.priority_pieces b.priority
 unfolding b.priority

@@ -67,7 +67,8 @@ unfolding test_pieces cond_pieces
 not_layer c = ap test_pieces (sym (rolls-Not c)) ∙ fold-roll-Test Pieces Pieces Pieces test_step cond_step conj_step (layer.Not c)
 
 pub occ_layer : (target : Target) (equal : Bool) (state : Answer) →
-    test_pieces (t.Occ target equal state) ≡ keyword k.Scope ∷ sign s.Dot ∷ word (scope_bytes scope_word.Occ) ∷ sign s.LeftRound ∷ text (target_text target) ∷ sign s.RightRound ∷ sign (equality_sign equal) ∷ text (state_text state) ∷ []
+    test_pieces (t.Occ target equal state) ≡ keyword k.Scope ∷ sign s.Dot ∷ word (scope_bytes scope_word.Occ)
+    ∷ sign s.LeftRound ∷ text (target_text target) ∷ sign s.RightRound ∷ sign (equality_sign equal) ∷ text (state_text state) ∷ []
 unfolding test_pieces
 occ_layer target equal state = ap test_pieces (sym (rolls-Occ target equal state)) ∙ fold-roll-Test Pieces Pieces Pieces test_step cond_step conj_step (layer.Occ target equal state)
 
@@ -97,7 +98,8 @@ scope_token n = chosen_token scope_word.Occ (scope_word.Size axis.X ∷ scope_wo
 
 abbrev occ_text : List Lexeme
 occ_text =
-    lexeme.Keyword k.Scope ∷ lexeme.Sign s.Dot ∷ lexeme.Name (codes "occ") ∷ lexeme.Sign s.LeftRound ∷ lexeme.Text (codes "active") ∷ lexeme.Sign s.RightRound ∷ lexeme.Sign s.Equal ∷ lexeme.Text (codes "none") ∷ []
+    lexeme.Keyword k.Scope ∷ lexeme.Sign s.Dot ∷ lexeme.Name (codes "occ") ∷ lexeme.Sign s.LeftRound
+    ∷ lexeme.Text (codes "active") ∷ lexeme.Sign s.RightRound ∷ lexeme.Sign s.Equal ∷ lexeme.Text (codes "none") ∷ []
 
 test_some : Some_text (After [] test_pieces)
 test_some c = (occ_text, t.Occ target.Active true answer.Nothing, c, (map (token Usual) occ_text, occ_layer target.Active true answer.Nothing, plain_written c occ_text))
@@ -145,7 +147,9 @@ module _ (n : ℕ) (inner : Reader Cond) (h : IsInner n inner) where
   compare_reads : (left : Expr) (ps : Pieces) → expr_pieces left ≡ ps
       → Goes n n ps test_pieces (g.compare_after n inner left)
   unfolding g.compare_after
-  compare_reads left ps e = next (one_token (relation_token n)) (λ r. next (expr_reads n) (λ right. done (compare_layer left r right ∙ ap (λ z. z ++ (sign (relation_sign r) ∷ expr_pieces right)) e ∙ sym (append_assoc ps (sign (relation_sign r) ∷ []) (expr_pieces right)))))
+  compare_reads left ps e = next (one_token (relation_token n))
+      (λ r. next (expr_reads n) (λ right. done (compare_layer left r right
+      ∙ ap (λ z. z ++ (sign (relation_sign r) ∷ expr_pieces right)) e ∙ sym (append_assoc ps (sign (relation_sign r) ∷ []) (expr_pieces right)))))
 
   abbrev pub scope_pieces : ScopeWord → Pieces
   scope_pieces w = keyword k.Scope ∷ sign s.Dot ∷ word (scope_bytes w) ∷ []
@@ -180,7 +184,8 @@ module _ (n : ℕ) (inner : Reader Cond) (h : IsInner n inner) where
 
   pub conj_reads : Reads n n conj_pieces (g.conj n inner)
   unfolding g.conj
-  conj_reads = next test_reads (λ a. next (listed (is_keyword k.And) further_test_long further_test_reads) (λ more. done (conj_layer a more ∙ ap (λ z. test_pieces a ++ z) (nil_right (concat (map further_test_pieces more))))))
+  conj_reads = next test_reads (λ a. next (listed (is_keyword k.And) further_test_long further_test_reads)
+      (λ more. done (conj_layer a more ∙ ap (λ z. test_pieces a ++ z) (nil_right (concat (map further_test_pieces more))))))
 
   pub further_conj_long : Long further_conj_pieces
   further_conj_long c x a d w = long_of c Usual (lexeme.Keyword k.Or) (conj_pieces a) x d w
@@ -191,7 +196,8 @@ module _ (n : ℕ) (inner : Reader Cond) (h : IsInner n inner) where
 
   pub layer_reads : Reads n n cond_pieces (g.cond_layer n inner)
   unfolding g.cond_layer
-  layer_reads = next conj_reads (λ a. next (listed (is_keyword k.Or) further_conj_long further_conj_reads) (λ more. done (cond_layer a more ∙ ap (λ z. conj_pieces a ++ z) (nil_right (concat (map further_conj_pieces more))))))
+  layer_reads = next conj_reads (λ a. next (listed (is_keyword k.Or) further_conj_long further_conj_reads)
+      (λ more. done (cond_layer a more ∙ ap (λ z. conj_pieces a ++ z) (nil_right (concat (map further_conj_pieces more))))))
 
 pub no_inner : IsInner 0 refuse
 no_inner m e = absurd (omega arith)

@@ -99,7 +99,8 @@ not_spares = record { number = λ v. refl; name = λ n. refl; bracket = refl; sc
 -- a sum begins as its first factor does
 sum_begun : {test : Lexeme → Bool} (f : Factor) (fs : List Scaled) (ts : List Added) → Begun test (factor_pieces f)
     → Begun test (expr_pieces (g.sum_of f fs ts))
-sum_begun f fs ts b = begun_as (expr_layer _ ts ∙ ap (λ z. z ++ concat (map added_pieces ts)) (term_layer f fs)) (begun_append (concat (map added_pieces ts)) (begun_append (concat (map scaled_pieces fs)) b))
+sum_begun f fs ts b = begun_as (expr_layer _ ts ∙ ap (λ z. z ++ concat (map added_pieces ts)) (term_layer f fs))
+    (begun_append (concat (map added_pieces ts)) (begun_append (concat (map scaled_pieces fs)) b))
 
 abbrev pub AgainInner : ℕ → Reader Cond → Type 0
 AgainInner n inner = (m : ℕ) → n ≡ suc m → Again cond_pieces with_or inner
@@ -139,7 +140,9 @@ module _ (n : ℕ) (inner : Reader Cond) (h : AgainInner n inner) (r : IsInner n
 
   not_again : (c : Cond) → At_test (t.Not c)
   unfolding g.one_test
-  not_again c = written_as (not_layer c) (peek_no _ (missed (begun_token refl)) (peek_yes _ (starts_token refl) (took (a_keyword k.Not) tt refl (plainly (after _ c square_again misses_nothing ends)))))
+  not_again c = written_as (not_layer c)
+      (peek_no _ (missed (begun_token refl))
+      (peek_yes _ (starts_token refl) (took (a_keyword k.Not) tt refl (plainly (after _ c square_again misses_nothing ends)))))
 
   asked_again : (a : Target) (equal : Bool) (state : Answer) → At_test (t.Occ a equal state)
   unfolding g.one_test
@@ -154,7 +157,9 @@ module _ (n : ℕ) (inner : Reader Cond) (h : AgainInner n inner) (r : IsInner n
   sum_again a fs ts o right =
       let left : Expr = g.sum_of (g.size_factor a) fs ts in
       let end : Pieces = sign (relation_sign o) ∷ expr_pieces right in
-      written_as (compare_layer left o right ∙ ap (λ z. z ++ end) (sum_layer n inner r a fs ts) ∙ ap (λ z. keyword k.Scope ∷ sign s.Dot ∷ word (scope_bytes (scope_word.Size a)) ∷ z) (append_assoc (concat (map scaled_pieces fs)) (concat (map added_pieces ts)) end))
+      written_as (compare_layer left o right ∙ ap (λ z. z ++ end) (sum_layer n inner r a fs ts)
+      ∙ ap (λ z. keyword k.Scope ∷ sign s.Dot ∷ word (scope_bytes (scope_word.Size a)) ∷ z)
+      (append_assoc (concat (map scaled_pieces fs)) (concat (map added_pieces ts)) end))
       (peek_no _ (missed (begun_token refl)) (peek_no _ (missed (begun_token refl)) (peek_yes _ (starts_token refl)
       (took (a_keyword k.Scope) tt refl (took (a_sign s.Dot) tt refl (took a_scope_word (scope_word.Size a) (size_read a)
       (all_of _ g.is_scaling fs (record { again = scaled_again n (g.inside_of n) (inside_again n) (inside_reads n); starting = scaled_starts; apart = λ z. begun_nothing })
@@ -185,8 +190,10 @@ module _ (n : ℕ) (inner : Reader Cond) (h : AgainInner n inner) (r : IsInner n
       (o : Relation) (right : Expr)
       → At_test (t.Compare (g.sum_of (record { minus = false; primary = roll-Primary q }) fs ts) o right)
   by_primary (layer.ScopeSize a) fs ts o right = subst (λ p. At_test (t.Compare (g.sum_of (record { minus = false; primary = p }) fs ts) o right)) (sym (rolls-ScopeSize a)) (sum_again a fs ts o right)
-  by_primary (layer.Number value) fs ts o right = other_again _ o right (sum_begun _ fs ts (begun_as (factor_layer false _ ∙ ap primary_pieces (rolls-Number value) ∙ number_layer value) (begun_token refl)))
-  by_primary (layer.Named name) fs ts o right = other_again _ o right (sum_begun _ fs ts (begun_as (factor_layer false _ ∙ ap primary_pieces (rolls-Named name) ∙ named_layer name) (begun_named name refl)))
+  by_primary (layer.Number value) fs ts o right = other_again _ o right
+      (sum_begun _ fs ts (begun_as (factor_layer false _ ∙ ap primary_pieces (rolls-Number value) ∙ number_layer value) (begun_token refl)))
+  by_primary (layer.Named name) fs ts o right = other_again _ o right
+      (sum_begun _ fs ts (begun_as (factor_layer false _ ∙ ap primary_pieces (rolls-Named name) ∙ named_layer name) (begun_named name refl)))
   by_primary (layer.Group e) fs ts o right = other_again _ o right (sum_begun _ fs ts (begun_as (factor_layer false _ ∙ ap primary_pieces (rolls-Group e) ∙ bracket_layer e) (begun_token refl)))
   by_primary (layer.Floor e) fs ts o right = other_again _ o right (sum_begun _ fs ts (begun_as (factor_layer false _ ∙ ap primary_pieces (rolls-Floor e) ∙ floor_layer e) (begun_token refl)))
   by_primary (layer.Ceil e) fs ts o right = other_again _ o right (sum_begun _ fs ts (begun_as (factor_layer false _ ∙ ap primary_pieces (rolls-Ceil e) ∙ ceil_layer e) (begun_token refl)))

@@ -57,7 +57,12 @@ in_round n some h = bracketed n (opening s.LeftRound refl refl) (λ i e. a_sign_
 -- ---- the shortest texts
 
 number_some : Some_text (After [] primary_pieces)
-number_some c = (lexeme.Number (of_int (pos 1)) ∷ [], v.Number (of_int (pos 1)), c, (plain (lexeme.Number (of_int (pos 1))) ∷ [], number_layer (of_int (pos 1)), token_first c Usual (lexeme.Number (of_int (pos 1))) [] [] c (nothing c)))
+number_some c = (
+  lexeme.Number (of_int (pos 1)) ∷ [],
+  v.Number (of_int (pos 1)),
+  c,
+  (plain (lexeme.Number (of_int (pos 1))) ∷ [], number_layer (of_int (pos 1)), token_first c Usual (lexeme.Number (of_int (pos 1))) [] [] c (nothing c)),
+)
 
 pub some_as : {A B : Type 0} (v : A → Pieces) (w : B → Pieces) (f : A → B) → ((a : A) → w (f a) ≡ v a)
     → Some_text (After [] v) → Some_text (After [] w)

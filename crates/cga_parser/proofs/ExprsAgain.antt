@@ -101,11 +101,15 @@ factor_begun h m f = factor_begun_by h m f.minus f.primary
 
 pub term_begun : {test : Lexeme → Bool} → Spares test → test (lexeme.Sign s.Minus) ≡ false → (t : Term)
     → Begun test (term_pieces t)
-term_begun {test} h m t = subst (λ z. Begun test (term_pieces z)) (roll-out-Term t) (begun_as (term_layer (out-Term t).first (out-Term t).rest) (begun_append (concat (map scaled_pieces (out-Term t).rest)) (factor_begun h m (out-Term t).first)))
+term_begun {test} h m t = subst (λ z. Begun test (term_pieces z)) (roll-out-Term t)
+    (begun_as (term_layer (out-Term t).first (out-Term t).rest)
+    (begun_append (concat (map scaled_pieces (out-Term t).rest)) (factor_begun h m (out-Term t).first)))
 
 pub expr_begun : {test : Lexeme → Bool} → Spares test → test (lexeme.Sign s.Minus) ≡ false → (e : Expr)
     → Begun test (expr_pieces e)
-expr_begun {test} h m e = subst (λ z. Begun test (expr_pieces z)) (roll-out-Expr e) (begun_as (expr_layer (out-Expr e).first (out-Expr e).rest) (begun_append (concat (map added_pieces (out-Expr e).rest)) (term_begun h m (out-Expr e).first)))
+expr_begun {test} h m e = subst (λ z. Begun test (expr_pieces z)) (roll-out-Expr e)
+    (begun_as (expr_layer (out-Expr e).first (out-Expr e).rest)
+    (begun_append (concat (map added_pieces (out-Expr e).rest)) (term_begun h m (out-Expr e).first)))
 
 abbrev pub AgainInside : ℕ → Reader Expr → Type 0
 AgainInside n inside = (m : ℕ) → n ≡ suc m → Again expr_pieces goes_on inside
@@ -158,11 +162,15 @@ module _ (n : ℕ) (inside : Reader Expr) (h : AgainInside n inside) (r : IsInsi
 
   floor_again : (e : Expr) → Leads nothing (primary_pieces (v.Floor e)) (g.primary n inside) (v.Floor e)
   unfolding g.primary
-  floor_again e = written_as (floor_layer e) (peek_no _ (missed (begun_token refl)) (peek_no _ (missed (begun_token refl)) (took primary_head head.Floor refl (plainly (after _ e group_again misses_nothing ends)))))
+  floor_again e = written_as (floor_layer e)
+      (peek_no _ (missed (begun_token refl))
+      (peek_no _ (missed (begun_token refl)) (took primary_head head.Floor refl (plainly (after _ e group_again misses_nothing ends)))))
 
   ceil_again : (e : Expr) → Leads nothing (primary_pieces (v.Ceil e)) (g.primary n inside) (v.Ceil e)
   unfolding g.primary
-  ceil_again e = written_as (ceil_layer e) (peek_no _ (missed (begun_token refl)) (peek_no _ (missed (begun_token refl)) (took primary_head head.Ceil refl (plainly (after _ e group_again misses_nothing ends)))))
+  ceil_again e = written_as (ceil_layer e)
+      (peek_no _ (missed (begun_token refl))
+      (peek_no _ (missed (begun_token refl)) (took primary_head head.Ceil refl (plainly (after _ e group_again misses_nothing ends)))))
 
   drawn_again : (j : ℕ) (low high : Expr) (steps : ℕ)
       → Leads nothing (primary_pieces (v.Rand j low high steps)) (g.primary n inside) (v.Rand j low high steps)

@@ -48,7 +48,9 @@ unfolding item_pieces
 solid_layer p = ap item_pieces (sym (rolls-Solid p)) ∙ fold-roll-Item Pieces Pieces item_step body_step (layer.Solid p)
 
 pub subdiv_layer : (a : Axis) (sizes : List Size) (bodies : List Body) →
-    item_pieces (i.Subdiv a sizes bodies) ≡ keyword k.Subdiv ∷ sign s.LeftRound ∷ text (axis_text a) ∷ preceded (sign s.Comma) (map size_pieces sizes) (sign s.RightRound ∷ sign s.LeftCurly ∷ separated (sign s.Bar) (map body_pieces bodies) (sign s.RightCurly ∷ []))
+    item_pieces (i.Subdiv a sizes bodies) ≡ keyword k.Subdiv ∷ sign s.LeftRound ∷ text (axis_text a)
+    ∷ preceded (sign s.Comma) (map size_pieces sizes) (sign s.RightRound ∷ sign s.LeftCurly
+    ∷ separated (sign s.Bar) (map body_pieces bodies) (sign s.RightCurly ∷ []))
 unfolding item_pieces body_pieces
 subdiv_layer a sizes bodies = ap item_pieces (sym (rolls-Subdiv a sizes bodies)) ∙ fold-roll-Item Pieces Pieces item_step body_step (layer.Subdiv a sizes bodies)
 

@@ -148,7 +148,9 @@ split_is a x more = ap (λ z. sign s.LeftRound ∷ text (axis_text a) ∷ z) (pr
 split_rest : (n m : ℕ) (p : Reader Expr) → Reads m m expr_pieces p →
     Goes m (suc m) round split_pieces (single an_axis >>= λ a. g.further_size n p >>= λ x. many (is_sign s.Comma) (g.further_size n p) >>= λ more. g.sign s.RightRound >> pure (a, x ∷ more))
 split_rest n m p h =
-    next (one_token (axis_token m)) (λ a. next (further_size_reads n m p h) (λ x. next (listed (is_sign s.Comma) further_size_long (further_size_reads n m p h)) (λ more. next (close m) (λ _. done (split_is a x more)))))
+    next (one_token (axis_token m))
+    (λ a. next (further_size_reads n m p h)
+    (λ x. next (listed (is_sign s.Comma) further_size_long (further_size_reads n m p h)) (λ more. next (close m) (λ _. done (split_is a x more)))))
 
 pub split_reads : (n : ℕ) (inside : Reader Expr) → IsInside n inside → Reads n n split_pieces (g.split_parts n inside)
 unfolding g.split_parts

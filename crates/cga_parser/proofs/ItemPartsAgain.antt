@@ -160,7 +160,11 @@ module _ (n : ℕ) (inside : Reader Expr) (h : AgainInside n inside) (r : IsInsi
 
   pub repeat_again : Again repeat_pieces nothing (g.repeat_parts n inside)
   unfolding g.repeat_parts
-  repeat_again = record { all = λ p. entered (a_sign s.LeftRound) n refl (λ m e. took an_axis p.0 (axis_read p.0) (took (a_sign s.Comma) tt refl (after _ p.1 (h m e) (missed (begun_token refl)) (took (a_sign s.RightRound) tt refl ends)))) }
+  repeat_again = record {
+    all = λ p. entered (a_sign s.LeftRound) n refl
+        (λ m e. took an_axis p.0 (axis_read p.0)
+        (took (a_sign s.Comma) tt refl (after _ p.1 (h m e) (missed (begun_token refl)) (took (a_sign s.RightRound) tt refl ends))));
+  }
 
   pub selector_part_again : Again selector_part_pieces nothing (g.selector_part n inside)
   unfolding g.selector_part
@@ -175,8 +179,11 @@ module _ (n : ℕ) (inside : Reader Expr) (h : AgainInside n inside) (r : IsInsi
   unfolding g.some_arguments
   some_arguments_at x more =
       written_as (ap (λ z. sign s.LeftRound ∷ (expr_pieces x ++ (z ++ (sign s.RightRound ∷ [])))) (at_most_is 3 (sign s.Comma) expr_pieces more))
-      (entered (a_sign s.LeftRound) n refl (λ m e. after _ x (h m e) (few_misses further_argument_pieces (sign s.RightRound ∷ []) 3 more (misses_each more (λ z. begun_token refl) (missed (begun_token refl))))
-      (few_of further_argument_pieces (sign s.RightRound ∷ []) _ (is_sign s.Comma) 3 more (record { again = further_argument_again m e; starting = λ z. starts_token refl; apart = λ z. begun_token refl })
+      (entered (a_sign s.LeftRound) n refl
+      (λ m e. after _ x (h m e) (few_misses further_argument_pieces (sign s.RightRound ∷ []) 3 more
+      (misses_each more (λ z. begun_token refl) (missed (begun_token refl))))
+      (few_of further_argument_pieces (sign s.RightRound ∷ []) _ (is_sign s.Comma) 3 more
+      (record { again = further_argument_again m e; starting = λ z. starts_token refl; apart = λ z. begun_token refl })
       (record { no_more = missed (begun_token refl); no_member = missed (begun_token refl); leads = took (a_sign s.RightRound) tt refl ends }))))
 
   arguments_at : (es : List Expr) → Leads with_bracket (arguments_pieces es) (g.arguments n inside) es

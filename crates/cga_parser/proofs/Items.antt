@@ -60,7 +60,8 @@ item_long_by (layer.Solid p) c t d w = long_of c Usual _ _ t d (subst (λ ps. Wr
 item_long_by (layer.Subdiv a sizes bodies) c t d w = long_of c Usual _ _ t d (subst (λ ps. Writes c ps t d) (ap item_pieces (rolls-Subdiv a sizes bodies) ∙ subdiv_layer a sizes bodies) w)
 item_long_by (layer.Repeat a e body) c t d w = long_of c Usual _ _ t d (subst (λ ps. Writes c ps t d) (ap item_pieces (rolls-Repeat a e body) ∙ repeat_layer a e body) w)
 item_long_by (layer.Comp x body) c t d w = long_of c Usual _ _ t d (subst (λ ps. Writes c ps t d) (ap item_pieces (rolls-Comp x body) ∙ comp_layer x body) w)
-item_long_by (layer.Child name args) c t d w = named_long (is_reserved name) c name (arguments (map expr_pieces args)) t d (subst (λ ps. Writes c ps t d) (ap item_pieces (rolls-Child name args) ∙ child_layer name args) w)
+item_long_by (layer.Child name args) c t d w = named_long (is_reserved name) c name
+    (arguments (map expr_pieces args)) t d (subst (λ ps. Writes c ps t d) (ap item_pieces (rolls-Child name args) ∙ child_layer name args) w)
 
 pub item_long : Long item_pieces
 item_long c x a d w = item_long_by (out-Item a) c x d (subst (λ z. Writes c (item_pieces z) x d) (sym (roll-out-Item a)) w)
@@ -134,7 +135,9 @@ braced_bodies_is is more =
     ∙ ap (λ z. sign s.LeftCurly ∷ (z ++ (concat (map further_body_pieces more) ++ (sign s.RightCurly ∷ [])))) (body_layer is) ∙ simp append_assoc
 
 braced_bodies_rest : (n m : ℕ) (inside : Reader Expr) (p : Reader Item) → Reads m m item_pieces p →
-    Goes m (suc m) (sign s.LeftCurly ∷ []) braced_bodies_pieces (g.body_by p >>= λ is. many (is_sign s.Bar) (g.further_body n inside p) >>= λ more. g.sign s.RightCurly >> pure (roll-Body (record { items = is }) ∷ more))
+    Goes m (suc m) (sign s.LeftCurly ∷ []) braced_bodies_pieces
+    (g.body_by p >>= λ is. many (is_sign s.Bar) (g.further_body n inside p) >>= λ more. g.sign s.RightCurly >>
+    pure (roll-Body (record { items = is }) ∷ more))
 braced_bodies_rest n m inside p h =
     next (body_reads m p h) (λ is. next (listed (is_sign s.Bar) further_body_long (further_body_reads n m inside p h)) (λ more. next (close_curly m) (λ _. done (braced_bodies_is is more))))
 

@@ -88,7 +88,11 @@ module _ (m : ℕ) (p : Reader Item) (h : Again item_pieces with_bracket p) (r :
 module _ (n : ℕ) (inside : Reader Expr) (h : AgainInside n inside) (r : IsInside n inside) (inner : Reader Item) (hi : AgainInnerItem n inner) (ri : IsInnerItem n inner) where
   scoped_again : Again scoped_pieces nothing (g.scoped n inside inner)
   unfolding g.scoped
-  scoped_again = record { all = λ is. written_as (scoped_is is) (entered (a_sign s.LeftSquare) n refl (λ m e. after _ is (items_again m inner (hi m e) (ri m e)) (missed (begun_token refl)) (took (a_sign s.RightSquare) tt refl ends))) }
+  scoped_again = record {
+    all = λ is. written_as (scoped_is is)
+        (entered (a_sign s.LeftSquare) n refl (λ m e. after _ is (items_again m inner (hi m e) (ri m e))
+        (missed (begun_token refl)) (took (a_sign s.RightSquare) tt refl ends)));
+  }
 
   braced_body_at : (is : List Item)
       → Leads nothing (braced_body_pieces (roll-Body (record { items = is }))) (g.braced_body n inside inner)
@@ -116,7 +120,9 @@ module _ (n : ℕ) (inside : Reader Expr) (h : AgainInside n inside) (r : IsInsi
       (g.braced_bodies n inside inner) (roll-Body (record { items = is }) ∷ more)
   unfolding g.braced_bodies
   braced_bodies_of is more =
-      written_as (ap (λ z. sign s.LeftCurly ∷ z) (separated_is (sign s.Bar) body_pieces (roll-Body (record { items = is })) more (sign s.RightCurly ∷ [])) ∙ ap (λ z. sign s.LeftCurly ∷ (z ++ (concat (map further_body_pieces more) ++ (sign s.RightCurly ∷ [])))) (body_layer is))
+      written_as (ap (λ z. sign s.LeftCurly ∷ z)
+      (separated_is (sign s.Bar) body_pieces (roll-Body (record { items = is })) more (sign s.RightCurly ∷ []))
+      ∙ ap (λ z. sign s.LeftCurly ∷ (z ++ (concat (map further_body_pieces more) ++ (sign s.RightCurly ∷ [])))) (body_layer is))
       (entered (a_sign s.LeftCurly) n refl (λ m e. after _ is (body_again m inner (hi m e) (ri m e)) (misses_each more (λ z. begun_token refl) (missed (begun_token refl)))
       (all_of _ (is_sign s.Bar) more (record { again = further_body_again m e; starting = λ z. starts_token refl; apart = λ z. begun_token refl })
       (unrolled further_body_pieces m (is_sign s.Bar) (g.further_body n inside inner) further_body_long (further_body_reads n m inside inner (ri m e)))

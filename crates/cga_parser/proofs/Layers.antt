@@ -52,23 +52,28 @@ factor_layer minus p = fold_out-Factor Pieces Pieces Pieces Pieces Pieces Pieces
 
 pub number_layer : (value : Rat) → primary_pieces (Number value) ≡ plain (lexeme.Number value) ∷ []
 unfolding primary_pieces expr_pieces
-number_layer value = ap primary_pieces (sym (rolls-Number value)) ∙ fold-roll-Primary Pieces Pieces Pieces Pieces Pieces Pieces primary_step added_step expr_step factor_step scaled_step term_step (layer.Number value)
+number_layer value = ap primary_pieces (sym (rolls-Number value)) ∙ fold-roll-Primary Pieces Pieces Pieces Pieces
+    Pieces Pieces primary_step added_step expr_step factor_step scaled_step term_step (layer.Number value)
 
 pub named_layer : (name : List ℕ) → primary_pieces (Named name) ≡ named name ∷ []
 unfolding primary_pieces expr_pieces
-named_layer name = ap primary_pieces (sym (rolls-Named name)) ∙ fold-roll-Primary Pieces Pieces Pieces Pieces Pieces Pieces primary_step added_step expr_step factor_step scaled_step term_step (layer.Named name)
+named_layer name = ap primary_pieces (sym (rolls-Named name)) ∙ fold-roll-Primary Pieces Pieces Pieces Pieces
+    Pieces Pieces primary_step added_step expr_step factor_step scaled_step term_step (layer.Named name)
 
 pub size_layer : (a : Axis) → primary_pieces (ScopeSize a) ≡ keyword k.Scope ∷ sign s.Dot ∷ word (size_word a) ∷ []
 unfolding primary_pieces expr_pieces
-size_layer a = ap primary_pieces (sym (rolls-ScopeSize a)) ∙ fold-roll-Primary Pieces Pieces Pieces Pieces Pieces Pieces primary_step added_step expr_step factor_step scaled_step term_step (layer.ScopeSize a)
+size_layer a = ap primary_pieces (sym (rolls-ScopeSize a)) ∙ fold-roll-Primary Pieces Pieces Pieces Pieces Pieces
+    Pieces primary_step added_step expr_step factor_step scaled_step term_step (layer.ScopeSize a)
 
 pub group_layer : (e : Expr) → primary_pieces (Group e) ≡ grouped (expr_pieces e)
 unfolding primary_pieces expr_pieces
-group_layer e = ap primary_pieces (sym (rolls-Group e)) ∙ fold-roll-Primary Pieces Pieces Pieces Pieces Pieces Pieces primary_step added_step expr_step factor_step scaled_step term_step (layer.Group e)
+group_layer e = ap primary_pieces (sym (rolls-Group e)) ∙ fold-roll-Primary Pieces Pieces Pieces Pieces Pieces
+    Pieces primary_step added_step expr_step factor_step scaled_step term_step (layer.Group e)
 
 pub floor_layer : (e : Expr) → primary_pieces (Floor e) ≡ keyword k.Floor ∷ grouped (expr_pieces e)
 unfolding primary_pieces expr_pieces
-floor_layer e = ap primary_pieces (sym (rolls-Floor e)) ∙ fold-roll-Primary Pieces Pieces Pieces Pieces Pieces Pieces primary_step added_step expr_step factor_step scaled_step term_step (layer.Floor e)
+floor_layer e = ap primary_pieces (sym (rolls-Floor e)) ∙ fold-roll-Primary Pieces Pieces Pieces Pieces Pieces
+    Pieces primary_step added_step expr_step factor_step scaled_step term_step (layer.Floor e)
 
 pub ceil_layer : (e : Expr) → primary_pieces (Ceil e) ≡ keyword k.Ceil ∷ grouped (expr_pieces e)
 unfolding primary_pieces expr_pieces
@@ -79,4 +84,6 @@ pub rand_layer : (j : ℕ) (low high : Expr) (steps : ℕ)
     (expr_pieces low ++ (sign s.Comma ∷
     (expr_pieces high ++ (sign s.Comma ∷ whole 1 1000000 steps ∷ sign s.RightRound ∷ []))))
 unfolding primary_pieces expr_pieces
-rand_layer j low high steps = ap primary_pieces (sym (rolls-Rand j low high steps)) ∙ fold-roll-Primary Pieces Pieces Pieces Pieces Pieces Pieces primary_step added_step expr_step factor_step scaled_step term_step (layer.Rand j low high steps)
+rand_layer j low high steps = ap primary_pieces (sym (rolls-Rand j low high steps))
+    ∙ fold-roll-Primary Pieces Pieces Pieces Pieces Pieces Pieces primary_step added_step expr_step factor_step
+    scaled_step term_step (layer.Rand j low high steps)

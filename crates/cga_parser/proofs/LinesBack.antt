@@ -98,7 +98,11 @@ priority_back n h =
     (line_told (priority_tokens n) (line.Priority n) 32 (priority_spelled n h) (priority_walk n)) (priority_short n h)
 
 pub priority_inside : (n : ℕ) → n < 2 ^ 16 → IsInside (line.Priority n)
-priority_inside n h = (priority_visible n h, not_end (line.Priority n) (lexeme.Name (codes "PRIORITY")) (number n ∷ lexeme.Sign s.Colon ∷ []) (priority_read n h) (λ e. other_word (codes "PRIORITY") e refl))
+priority_inside n h = (
+  priority_visible n h,
+  not_end (line.Priority n) (lexeme.Name (codes "PRIORITY"))
+      (number n ∷ lexeme.Sign s.Colon ∷ []) (priority_read n h) (λ e. other_word (codes "PRIORITY") e refl),
+)
 
 -- ---- what some line says
 
@@ -146,14 +150,16 @@ pub attribute_back : (a : Attribute) (l : Line) → BlockTells l (Ok (Some (line
     → BlockTells (given (line.Attribute a)) (Ok (Some (line.Attribute a)))
 attribute_back a l h =
     let g = attribute_is a l h in
-    by_tokens (line.Attribute a) (lexeme.Name (codes "attr")) (lexeme.Name a.name ∷ lexeme.Sign s.Assign ∷ lexemes (exactly a.value.num a.value.above)) (attribute_read a g.0) g.1 (attribute_short a g.0)
+    by_tokens (line.Attribute a) (lexeme.Name (codes "attr")) (lexeme.Name a.name ∷ lexeme.Sign s.Assign
+    ∷ lexemes (exactly a.value.num a.value.above)) (attribute_read a g.0) g.1 (attribute_short a g.0)
 
 pub attribute_inside : (a : Attribute) (l : Line) → BlockTells l (Ok (Some (line.Attribute a)))
     → IsInside (line.Attribute a)
 attribute_inside a l h =
     let t = (attribute_is a l h).0 in (
       attribute_visible a t,
-      not_end (line.Attribute a) (lexeme.Name (codes "attr")) (lexeme.Name a.name ∷ lexeme.Sign s.Assign ∷ lexemes (exactly a.value.num a.value.above)) (attribute_read a t) (λ e. other_word (codes "attr") e refl),
+      not_end (line.Attribute a) (lexeme.Name (codes "attr")) (lexeme.Name a.name ∷ lexeme.Sign s.Assign
+          ∷ lexemes (exactly a.value.num a.value.above)) (attribute_read a t) (λ e. other_word (codes "attr") e refl),
     )
 
 -- ---- a rule
@@ -190,7 +196,8 @@ rule_back r l h = rule_by r (lexemes (printed (rule_pieces r))) refl (back (line
 rule_not_end : (r : Rule) (y : List Lexeme) → lexemes (printed (rule_pieces r)) ≡ number r.id ∷ y
     → AreTokens (lexemes (printed (rule_pieces r))) → EndsBlock (given (line.Rule r)) → ⊥
 rule_not_end r y e t =
-    not_end (line.Rule r) (number r.id) y (subst (λ z. AreRead (tokens_of (line_text (line.Rule r))) z) e (text_read (printed (rule_pieces r)) t)) (λ q. let z : number r.id ≡ lexeme.Name (codes "end") = q in cc)
+    not_end (line.Rule r) (number r.id) y (subst (λ z. AreRead (tokens_of (line_text (line.Rule r))) z) e
+    (text_read (printed (rule_pieces r)) t)) (λ q. let z : number r.id ≡ lexeme.Name (codes "end") = q in cc)
 
 pub rule_inside : (r : Rule) (l : Line) → BlockTells l (Ok (Some (line.Rule r))) → IsInside (line.Rule r)
 rule_inside r l h =

@@ -41,7 +41,8 @@ module _ {A B : Type 0} (p : Reader A) (k : A → A → A → B) where
   second x (Err e) = refl
 
   first_sign : (x : A) (u : ReadResult (Unit {0})) →
-      made (three x (and_then u (λ _ i. and_then (p i) (λ y j. two y (last_of p j))))) ≡ and_then (and_then u (λ _. pure x)) (λ x. until p s.Comma >>= λ y. until p s.RightRound >>= λ z. pure (k x y z))
+      made (three x (and_then u (λ _ i. and_then (p i) (λ y j. two y (last_of p j))))) ≡ and_then
+      (and_then u (λ _. pure x)) (λ x. until p s.Comma >>= λ y. until p s.RightRound >>= λ z. pure (k x y z))
   first_sign x (Ok q) = second x (p q.1)
   first_sign x (Err e) = refl
 

@@ -36,4 +36,6 @@ pub rand_fails : (low high : Expr) (i : Input) (e : Stop Fault) → Fails e (ran
     → Fails {A = Expr × Expr × ℕ} e
     (and_then (sign s.Comma i) (λ _. single (a_whole 1 most_steps) >>= λ n. sign s.RightRound >> pure (low, high, n)))
 rand_fails low high i e f =
-    subst (Fails {A = Expr × Expr × ℕ} e) (sym (by_sign (single (a_whole 1 most_steps)) (sign s.RightRound) (with_ends low high) (sign s.Comma i))) (fails_then e (rand_steps i) (λ n. pure (with_ends low high n)) f)
+    subst (Fails {A = Expr × Expr × ℕ} e)
+    (sym (by_sign (single (a_whole 1 most_steps)) (sign s.RightRound) (with_ends low high) (sign s.Comma i)))
+    (fails_then e (rand_steps i) (λ n. pure (with_ends low high n)) f)

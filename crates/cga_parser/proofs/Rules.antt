@@ -97,7 +97,8 @@ alternative_is is p = refl
 
 pub alternative_reads : (n : ℕ) → Reads n n alternative_pieces (g.alternative n)
 unfolding g.alternative
-alternative_reads n = next (one_token (sign_token Usual s.Arrow n n refl refl)) (λ _. next (body_reads n (g.item n) (item_reads n)) (λ is. next (probability_reads n) (λ p. done (alternative_is is p))))
+alternative_reads n = next (one_token (sign_token Usual s.Arrow n n refl refl))
+    (λ _. next (body_reads n (g.item n) (item_reads n)) (λ is. next (probability_reads n) (λ p. done (alternative_is is p))))
 
 pub alternative_long : Long alternative_pieces
 alternative_long c x a d w = long_of c Usual (lexeme.Sign s.Arrow) (list_pieces a.items ++ (probability a.prob ∷ [])) x d (subst (λ ps. Writes c ps x d) (alternative_is a.items a.prob) w)
@@ -115,4 +116,6 @@ unfolding g.rule
 rule_reads n =
     next (one_token (whole_token 1 999999 n refl)) (λ id. next (one_token (sign_token NoneBefore s.Colon n n refl refl)) (λ _. next (one_token (name_token n)) (λ name.
     next (parameters_reads n) (λ ps. next (condition_reads n) (λ c. next (alternative_reads n) (λ a. next (listed (is_sign s.Arrow) alternative_long (alternative_reads n)) (λ more.
-    done (rule_is _ ∙ ap (λ z. whole 1 999999 id ∷ token NoneBefore (lexeme.Sign s.Colon) ∷ named name ∷ (parameters_pieces ps ++ (condition_pieces c ++ (alternative_pieces a ++ z)))) (nil_right (concat (map alternative_pieces more))) ∙ simp append_assoc))))))))
+    done (rule_is _ ∙ ap (λ z. whole 1 999999 id ∷ token NoneBefore (lexeme.Sign s.Colon) ∷ named name
+    ∷ (parameters_pieces ps ++ (condition_pieces c ++ (alternative_pieces a ++ z))))
+    (nil_right (concat (map alternative_pieces more))) ∙ simp append_assoc))))))))

@@ -139,7 +139,14 @@ condition_begun h g' (Some c) a qs = missed (begun_token h)
 -- a rule with alternatives
 rule_of : (n id : ℕ) (name : List ℕ) (ps : List (List ℕ)) (c : Option Cond) (a : Alternative) (more : List Alternative)
     →
-    Leads with_rule (rule_pieces (record { id = id; symbol = name; params = ps; cond = c; alternatives = a ∷ more })) (g.rule n) (record { id = id; symbol = name; params = ps; cond = c; alternatives = a ∷ more })
+    Leads with_rule (rule_pieces (record {
+      id = id;
+      symbol = name;
+      params = ps;
+      cond = c;
+      alternatives = a
+          ∷ more;
+    })) (g.rule n) (record { id = id; symbol = name; params = ps; cond = c; alternatives = a ∷ more })
 unfolding g.rule
 rule_of n id name ps c a more =
     let stop : (l : Lexeme) → with_rule l ≡ false → with_more l ≡ false = λ l e. (neither (with_more l) (is_sign s.Arrow l) e).0 in
@@ -163,7 +170,8 @@ rule_none id name ps c n x d w =
     never_written t.2 [] t.1 d t.5
 
 rule_at : (n id : ℕ) (name : List ℕ) (ps : List (List ℕ)) (c : Option Cond) (as' : List Alternative) →
-    Leads with_rule (rule_pieces (record { id = id; symbol = name; params = ps; cond = c; alternatives = as' })) (g.rule n) (record { id = id; symbol = name; params = ps; cond = c; alternatives = as' })
+    Leads with_rule (rule_pieces (record { id = id; symbol = name; params = ps; cond = c; alternatives = as' }))
+    (g.rule n) (record { id = id; symbol = name; params = ps; cond = c; alternatives = as' })
 rule_at n id name ps c [] = record { leads = λ k x d r w e. absurd (rule_none id name ps c k x d w) }
 rule_at n id name ps c (a ∷ more) = rule_of n id name ps c a more
 

@@ -23,7 +23,10 @@ pub(crate) fn few_of<
 ) -> Result<List<T>, Stop<Fault>>
     requires comes { C.IsAlwaysCallable comes }
     requires member { M.IsAlwaysCallable member }
-    ensures { (test : Lexeme → Bool) (p : Reader T) → ((x : _) (r : _) → C.post comes x r → r ≡ begins test (input_of x.now).left) → ((x : _) (r : _) (y : _) → M.post member x r y → Reads (p (input_of x.now)) r (input_of y.now)) → Reads (many_from test p most [] (input_of tokens.old)) result (input_of tokens.new) }
+    ensures { (test : Lexeme → Bool) (p : Reader T)
+        → ((x : _) (r : _) → C.post comes x r → r ≡ begins test (input_of x.now).left)
+        → ((x : _) (r : _) (y : _) → M.post member x r y → Reads (p (input_of x.now)) r (input_of y.now))
+        → Reads (many_from test p most [] (input_of tokens.old)) result (input_of tokens.new) }
 {
     let mut list = List::new(alloc);
     let mut turns = most;
@@ -44,7 +47,10 @@ pub(crate) fn all_of<
 >(alloc: Global, tokens: &mut Tokens<'_>, comes: C, member: M) -> Result<List<T>, Stop<Fault>>
     requires comes { C.IsAlwaysCallable comes }
     requires member { M.IsAlwaysCallable member }
-    ensures { (test : Lexeme → Bool) (p : Reader T) → ((x : _) (r : _) → C.post comes x r → r ≡ begins test (input_of x.now).left) → ((x : _) (r : _) (y : _) → M.post member x r y → Reads (p (input_of x.now)) r (input_of y.now)) → Reads (many test p (input_of tokens.old)) result (input_of tokens.new) }
+    ensures { (test : Lexeme → Bool) (p : Reader T)
+        → ((x : _) (r : _) → C.post comes x r → r ≡ begins test (input_of x.now).left)
+        → ((x : _) (r : _) (y : _) → M.post member x r y → Reads (p (input_of x.now)) r (input_of y.now))
+        → Reads (many test p (input_of tokens.old)) result (input_of tokens.new) }
 {
     // Each member takes a token.
     few_of(alloc, tokens, tokens.rest.len(), comes, member)

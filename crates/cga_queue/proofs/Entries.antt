@@ -19,17 +19,19 @@ module _ {K X : Type 0} (cmp : K → K → Ordering) where
   pub created_or_was : (k : K) (v : X) (es : List (K × X)) (q : K) (w : X) → Among (q, w) (insert_entry cmp es k v)
       → ((w ≡ v) × Takes k es q) ⊎ Among (q, w) es
   created_or_was k v [] q w h = elim h [ inl e ↦ inl (sym (ap (λ p. p.1) e), inl (sym (ap (λ p. p.0) e))) | inr r ↦ absurd r ]
-  created_or_was k v (e ∷ es) q w h = elim (cmp k e.0) as (λ o. cmp k e.0 ≡ o → Among (q, w) (match_ordering o ((k, v) ∷ e ∷ es) ((e.0, v) ∷ es) (e ∷ insert_entry cmp es k v)) → ((w ≡ v) × Takes k (e ∷ es) q) ⊎ Among (q, w) (e ∷ es)) [
-    | Less ↦ λ c g. elim g [ inl a ↦ inl (sym (ap (λ p. p.1) a), inl (sym (ap (λ p. p.0) a))) | inr r ↦ inr r ]
-    | Equal ↦ λ c g. elim g [
-      | inl a ↦ inl (sym (ap (λ p. p.1) a), inr (ap (cmp k) (sym (ap (λ p. p.0) a)) ∙ c, (e.1, inl (λ i. (ap (λ p. p.0) a i, e.1)))))
-      | inr r ↦ inr (inr r)
-    ]
-    | Greater ↦ λ c g. elim g [
-      | inl a ↦ inr (inl a)
-      | inr r ↦ elim (created_or_was k v es q w r) [ inl a ↦ inl (a.0, takes_on k e es q a.1) | inr b ↦ inr (inr b) ]
-    ]
-  ] refl h
+  created_or_was k v (e ∷ es) q w h = elim (cmp k e.0) as (λ o. cmp k e.0 ≡ o
+      → Among (q, w) (match_ordering o ((k, v) ∷ e ∷ es) ((e.0, v) ∷ es) (e ∷ insert_entry cmp es k v))
+      → ((w ≡ v) × Takes k (e ∷ es) q) ⊎ Among (q, w) (e ∷ es)) [
+        | Less ↦ λ c g. elim g [ inl a ↦ inl (sym (ap (λ p. p.1) a), inl (sym (ap (λ p. p.0) a))) | inr r ↦ inr r ]
+        | Equal ↦ λ c g. elim g [
+          | inl a ↦ inl (sym (ap (λ p. p.1) a), inr (ap (cmp k) (sym (ap (λ p. p.0) a)) ∙ c, (e.1, inl (λ i. (ap (λ p. p.0) a i, e.1)))))
+          | inr r ↦ inr (inr r)
+        ]
+        | Greater ↦ λ c g. elim g [
+          | inl a ↦ inr (inl a)
+          | inr r ↦ elim (created_or_was k v es q w r) [ inl a ↦ inl (a.0, takes_on k e es q a.1) | inr b ↦ inr (inr b) ]
+        ]
+      ] refl h
 
   pub now_there : (k : K) (v : X) (es : List (K × X)) → (q : K) × Among (q, v) (insert_entry cmp es k v) × Takes k es q
   now_there k v [] = (k, inl refl, inl refl)

@@ -125,7 +125,9 @@ module _ (mode : Mode) (es ls es' ls' : Entries) (are : AreLines mode es ls) whe
   pop_viewed None taken = taken
   pop_viewed (Some p) taken =
       let z = left_own mode es ls es' ls' p are.0 are.1 taken in
-      is_popped mode (Counted es ls) (Counted es' ls') (counted_own mode es ls are.0 are.1) (counted_own mode es' ls' z.0 z.1) p.0 p.1 (taken_out key_cmp key_total es ls es' ls' p are.2 taken) (left_behind key_cmp key_total es ls es' ls' p are.2 taken)
+      is_popped mode (Counted es ls) (Counted es' ls') (counted_own mode es ls are.0 are.1)
+      (counted_own mode es' ls' z.0 z.1) p.0 p.1 (taken_out key_cmp key_total es ls es' ls' p are.2 taken)
+      (left_behind key_cmp key_total es ls es' ls' p are.2 taken)
 
   pub pop_shorter : (r : Option (StampKey × ℕ)) → IfSome r (λ p. IsTakenOut key_cmp es ls es' ls' p)
       → IfSome r (λ p. length (Counted es ls) ≡ suc (length (Counted es' ls')))

@@ -75,13 +75,14 @@ module _ {K X : Type 0} (cmp : K → K → Ordering) (o : IsTotalOrder cmp) wher
       → Among x ls × (has_key cmp es x.0 ≡ false)
   unfolding spare
   spare_from es [] x h = absurd h
-  spare_from es (l ∷ ls) x h = elim (has_key cmp es l.0) as (λ b. has_key cmp es l.0 ≡ b → Among x (if b then spare cmp es ls else (l ∷ spare cmp es ls)) → Among x (l ∷ ls) × (has_key cmp es x.0 ≡ false)) [
-    | true ↦ λ q g. let z = spare_from es ls x g in (inr z.0, z.1)
-    | false ↦ λ q g. elim g [
-      | inl a ↦ (inl a, ap (λ (e : K × X). has_key cmp es e.0) (sym a) ∙ q)
-      | inr r ↦ let z = spare_from es ls x r in (inr z.0, z.1)
-    ]
-  ] refl h
+  spare_from es (l ∷ ls) x h = elim (has_key cmp es l.0) as (λ b. has_key cmp es l.0 ≡ b
+      → Among x (if b then spare cmp es ls else (l ∷ spare cmp es ls)) → Among x (l ∷ ls) × (has_key cmp es x.0 ≡ false)) [
+        | true ↦ λ q g. let z = spare_from es ls x g in (inr z.0, z.1)
+        | false ↦ λ q g. elim g [
+          | inl a ↦ (inl a, ap (λ (e : K × X). has_key cmp es e.0) (sym a) ∙ q)
+          | inr r ↦ let z = spare_from es ls x r in (inr z.0, z.1)
+        ]
+      ] refl h
 
   pub counted_from : (es ls : List (K × X)) (x : K × X) → Among x (counted cmp es ls) → Among x es ⊎ Among x ls
   counted_from es ls x h = elim (among_either es (spare cmp es ls) x h) [ inl a ↦ inl a | inr b ↦ inr (spare_from es ls x b).0 ]
@@ -188,8 +189,12 @@ module _ {K X : Type 0} (cmp : K → K → Ordering) (o : IsTotalOrder cmp) wher
 
   pub puts_in : (es ls es' ls' : List (K × X)) (k : K) (v : X) → IsPutIn cmp es ls es' ls' k v
       → PutsIn cmp k v (counted cmp es ls) (counted cmp es' ls')
-  puts_in es ls es' ls' k v (inl h) = subst (λ (xs : List (K × X)). PutsIn cmp k v (counted cmp es ls) (counted cmp xs ls')) (sym h.0) (subst (λ (ys : List (K × X)). PutsIn cmp k v (counted cmp es ls) (counted cmp es ys)) (sym h.1) (behind_all es ls k v h.2))
-  puts_in es ls es' ls' k v (inr h) = subst (λ (xs : List (K × X)). PutsIn cmp k v (counted cmp es ls) (counted cmp xs ls')) (sym h.0) (subst (λ (ys : List (K × X)). PutsIn cmp k v (counted cmp es ls) (counted cmp (insert_entry cmp es k v) ys)) (sym h.1) (into_map es ls k v))
+  puts_in es ls es' ls' k v (inl h) = subst (λ (xs : List (K × X)). PutsIn cmp k v (counted cmp es ls)
+      (counted cmp xs ls')) (sym h.0)
+      (subst (λ (ys : List (K × X)). PutsIn cmp k v (counted cmp es ls) (counted cmp es ys)) (sym h.1) (behind_all es ls k v h.2))
+  puts_in es ls es' ls' k v (inr h) = subst (λ (xs : List (K × X)). PutsIn cmp k v (counted cmp es ls)
+      (counted cmp xs ls')) (sym h.0)
+      (subst (λ (ys : List (K × X)). PutsIn cmp k v (counted cmp es ls) (counted cmp (insert_entry cmp es k v) ys)) (sym h.1) (into_map es ls k v))
 
   rises_more : (ls : List (K × X)) (k : K) (v : X) → Rises cmp ls → AllBefore cmp ls k → Rises cmp (ls ++ (k, v) ∷ [])
   rises_more [] k v r h = (λ q i x. absurd x, tt)
@@ -262,7 +267,8 @@ module _ {K X : Type 0} (cmp : K → K → Ordering) (o : IsTotalOrder cmp) wher
   pub taken_out : (es ls es' ls' : List (K × X)) (p : K × X) → Rises cmp ls → IsTakenOut cmp es ls es' ls' p
       → IsOut p (counted cmp es ls) (counted cmp es' ls')
   taken_out es ls es' ls' p r (inl h) =
-      front_out p (counted cmp es ls) (counted cmp es' ls') (ap (λ (xs : List (K × X)). counted cmp xs ls) h.0 ∙ ap (λ (ys : List (K × X)). p ∷ (es' ++ ys)) (spare_past p es' ls h.3) ∙ ap (λ (ys : List (K × X)). p ∷ counted cmp es' ys) (sym h.1))
+      front_out p (counted cmp es ls) (counted cmp es' ls') (ap (λ (xs : List (K × X)). counted cmp xs ls) h.0
+      ∙ ap (λ (ys : List (K × X)). p ∷ (es' ++ ys)) (spare_past p es' ls h.3) ∙ ap (λ (ys : List (K × X)). p ∷ counted cmp es' ys) (sym h.1))
   taken_out es ls es' ls' p r (inr (inl h)) =
       let rest = subst (Rises cmp) h.2 r in
       front_out p (counted cmp es ls) (counted cmp es' ls') (
@@ -272,7 +278,8 @@ module _ {K X : Type 0} (cmp : K → K → Ordering) (o : IsTotalOrder cmp) wher
       )
   taken_out es ls es' ls' p r (inr (inr h)) =
       subst (λ (xs : List (K × X)). IsOut p (counted cmp es ls) (counted cmp xs ls')) (sym h.0)
-      (subst (λ (ys : List (K × X)). IsOut p ys (counted cmp es ls')) (sym (ap (counted cmp es) h.1 ∙ ap (λ (ys : List (K × X)). es ++ ys) (spare_first p es ls' h.2))) (out_of p es (spare cmp es ls')))
+      (subst (λ (ys : List (K × X)). IsOut p ys (counted cmp es ls'))
+      (sym (ap (counted cmp es) h.1 ∙ ap (λ (ys : List (K × X)). es ++ ys) (spare_first p es ls' h.2))) (out_of p es (spare cmp es ls')))
 
   -- and what is left comes behind it
   counted_behind : (es ls : List (K × X)) (k : K) → AllBehind cmp k es → AllBehind cmp k ls

@@ -32,7 +32,8 @@ module _ {N A F P : Type 0} (derivation : Derivation N A F P) (ones others : Lis
   abbrev Other : Derivation N A F P
   Other = district derivation others
 
-  module _ (laws : IsDerivation One) (other_laws : IsDerivation Other) (end : ℕ) (ends : NothingWaits Other (reached Other end)) (lot : List ℕ) (roots : SameRoots derivation ones others lot) (turns : SameTurns One Other lot) where
+  module _ (laws : IsDerivation One) (other_laws : IsDerivation Other) (end : ℕ)
+      (ends : NothingWaits Other (reached Other end)) (lot : List ℕ) (roots : SameRoots derivation ones others lot) (turns : SameTurns One Other lot) where
     abbrev ys : List (Placed N F P)
     ys = reached Other end
 

@@ -49,7 +49,10 @@ module _ {N A F P : Type 0} (derivation : Derivation N A F P) (laws : IsDerivati
       let r = lot_in (district derivation roots) part ends.0 settled n k (subst (λ l. Has l n k) ends.1 h) in
       ap (is_lot_of derivation roots) r.2 ∙ lot_of derivation roots r.0 r.1
 
-  module _ (left right : List N) (parts : AreParts derivation left right) (left_laws : IsDerivation (district derivation left)) (right_laws : IsDerivation (district derivation right)) (xs ys : Members) (left_ends : IsDerived (district derivation left) xs) (right_ends : IsDerived (district derivation right) ys) (left_sees : SeesNone derivation xs ys) (right_sees : SeesNone derivation ys xs) where
+  module _ (left right : List N) (parts : AreParts derivation left right)
+      (left_laws : IsDerivation (district derivation left)) (right_laws : IsDerivation (district derivation right))
+      (xs ys : Members) (left_ends : IsDerived (district derivation left) xs)
+      (right_ends : IsDerived (district derivation right) ys) (left_sees : SeesNone derivation xs ys) (right_sees : SeesNone derivation ys xs) where
     abbrev one : Job N N F P
     one = alone left xs
 

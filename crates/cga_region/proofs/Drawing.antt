@@ -104,7 +104,8 @@ module _ (test : Drawn → Bool) (names : List (List ℕ)) (list : List Member) 
       omega (arith, same, all, parts, rest)
   one_lot_more x lots false e rest =
       let same : count_by passes (drawn_in (x.name ∷ []) list) ≡ count_by (λ (d : Drawn). false) (drawn_in (x.name ∷ []) list)
-      = count_alike passes (λ (d : Drawn). false) (drawn_in (x.name ∷ []) list) (λ d h. ap (λ (name : List ℕ). is_named names name && test d) (lot_drawn x.name list d h) ∙ ap (λ (b : Bool). b && test d) e) in
+      = count_alike passes (λ (d : Drawn). false) (drawn_in (x.name ∷ []) list)
+      (λ d h. ap (λ (name : List ℕ). is_named names name && test d) (lot_drawn x.name list d h) ∙ ap (λ (b : Bool). b && test d) e) in
       let none = count_none (drawn_in (x.name ∷ []) list) in
       omega (arith, same, none, rest)
 
@@ -200,7 +201,11 @@ all_in_own (part ∷ parts) alone x h = elim (Among-append (lots_of part) (all_o
   | inr r ↦ Among-right part.own (own_of parts) x (all_in_own parts (λ p k. alone p (inr k)) x r)
 ]
 
-module _ (town : JobsAreTheTown) (sources : Sources) (parts : List LotJob) (own_differ : NamesDiffer (own_of parts)) (differ : (part : LotJob) → Among part parts → NamesDiffer (lots_of part)) (derived : (part : LotJob) → Among part parts → IsDerived (derivation_of (with_lots sources (lots_of part))) part.members) (settled : AreSettled sources.grammar parts) (drawn : List Drawn) (draws : Draws sources parts drawn) where
+module _ (town : JobsAreTheTown) (sources : Sources) (parts : List LotJob)
+    (own_differ : NamesDiffer (own_of parts)) (differ : (part : LotJob) → Among part parts
+    → NamesDiffer (lots_of part)) (derived : (part : LotJob) → Among part parts
+    → IsDerived (derivation_of (with_lots sources (lots_of part))) part.members)
+    (settled : AreSettled sources.grammar parts) (drawn : List Drawn) (draws : Draws sources parts drawn) where
   abbrev Town : Sources
   Town = with_lots sources draws.lots
 
@@ -209,7 +214,8 @@ module _ (town : JobsAreTheTown) (sources : Sources) (parts : List LotJob) (own_
   of_one only are part h x own =
       let is : only ≡ part = elim (subst (Among part) are h) [ inl e ↦ e | inr r ↦ absurd r ] in
       let lots : all_of parts ≡ lots_of part = ap all_of are ∙ (append-nil (lots_of only) ∙ ap lots_of is) in
-      let same = reordered town sources (lots_of part) draws.lots (differ part h) draws.differ (λ y. subst (λ (l : List Lot). Among y draws.lots ↔ Among y l) lots (draws.same y)) part.members draws.members (derived part h) draws.derived in
+      let same = reordered town sources (lots_of part) draws.lots (differ part h) draws.differ
+      (λ y. subst (λ (l : List Lot). Among y draws.lots ↔ Among y l) lots (draws.same y)) part.members draws.members (derived part h) draws.derived in
       tell_alike x.name draws.members part.members (places_differ Town draws.differ draws.members draws.derived)
       (places_differ (with_lots sources (lots_of part)) (differ part h) part.members (derived part h)) (λ s k i e. (same s k).1 i) (λ s k i e. (same s k).0 i)
 

@@ -35,7 +35,8 @@ module _ (h g : Box) (s t : Scope) (in_h : holds h (box_of s) ≡ true) (in_g : 
   far_first off = no_point (meets (box_of s) (box_of t)) (λ e. let on = points_touch h g (shared e) in let no : true ≡ false = sym on ∙ off in absurd (cc))
 
   pub far_second : touches g h ≡ false → meets (box_of s) (box_of t) ≡ false
-  far_second off = no_point (meets (box_of s) (box_of t)) (λ e. let p = shared e in let on = points_touch g h (record { point = p.point; first = p.second; second = p.first }) in let no : true ≡ false = sym on ∙ off in absurd (cc))
+  far_second off = no_point (meets (box_of s) (box_of t)) (λ e. let p = shared e in
+      let on = points_touch g h (record { point = p.point; first = p.second; second = p.first }) in let no : true ≡ false = sym on ∙ off in absurd (cc))
 
 -- ---- two parts
 
@@ -50,7 +51,11 @@ lot_among sources lots differ list ends n k h =
     let x = lot_of_root lots r.0 r.1 in
     (x.0, x.1, r.2 ∙ name_of x.0 r.0 x.2)
 
-module _ (hull : List ℕ → Box) (sources : Sources) (left right : List Lot) (left_differ : NamesDiffer left) (right_differ : NamesDiffer right) (xs ys : List Member) (left_ends : IsDerived (derivation_of (with_lots sources left)) xs) (right_ends : IsDerived (derivation_of (with_lots sources right)) ys) (left_held : AreHeld hull xs) (right_held : AreHeld hull ys) (far : AreFar hull left right) where
+module _ (hull : List ℕ → Box) (sources : Sources) (left right : List Lot) (left_differ : NamesDiffer left)
+    (right_differ : NamesDiffer right) (xs ys : List Member)
+    (left_ends : IsDerived (derivation_of (with_lots sources left)) xs)
+    (right_ends : IsDerived (derivation_of (with_lots sources right)) ys) (left_held : AreHeld hull xs)
+    (right_held : AreHeld hull ys) (far : AreFar hull left right) where
   off : (n m : Shape) (k j : Kind ShapeFault Primitive) → Has xs n k → Has ys m j
       → touches (hull n.lot) (hull m.lot) ≡ false
   off n m k j h g =

@@ -371,7 +371,8 @@ pub refusals_are_of_jobs : RefusalsAreOfJobs
 refusals_are_of_jobs s jobs have = record {
   rules = rules s jobs have;
   given = given_all s jobs have;
-  lot = λ lot lots cause h. lot_causes (not (is_plain s.grammar lot.symbol)) (is_bad lot) (finds_no_room lot lots) lot.symbol lot.name (record s { lots = with_lot lot s.lots }) (record (with_lots s lots) { lots = with_lot lot lots }) cause h;
+  lot = λ lot lots cause h. lot_causes (not (is_plain s.grammar lot.symbol)) (is_bad lot) (finds_no_room lot lots)
+      lot.symbol lot.name (record s { lots = with_lot lot s.lots }) (record (with_lots s lots) { lots = with_lot lot lots }) cause h;
   unlot = unlot s jobs have;
   limit = λ lots e budget. limit (with_lots s lots) e budget;
   whole = λ other others having few. by_whole s other others having few (checked other.grammar);

@@ -16,7 +16,9 @@ use Rattle.cga_order.specs.World.{Among}
 use Rattle.cga_shape.specs.declared.lot.Lot.{Lot}
 use Rattle.cga_shape.specs.declared.sources.Sources.{Sources}
 
-module _ (town : JobsAreTheTown) (sources : Sources) (lots others : List Lot) (differ : NamesDiffer lots) (other_differ : NamesDiffer others) (same : (x : Lot) → Among x others ↔ Among x lots) (xs ys : List Member) (derived : IsDerived (derivation_of (with_lots sources lots)) xs) (other_derived : IsDerived (derivation_of (with_lots sources others)) ys) where
+module _ (town : JobsAreTheTown) (sources : Sources) (lots others : List Lot) (differ : NamesDiffer lots)
+    (other_differ : NamesDiffer others) (same : (x : Lot) → Among x others ↔ Among x lots) (xs ys : List Member)
+    (derived : IsDerived (derivation_of (with_lots sources lots)) xs) (other_derived : IsDerived (derivation_of (with_lots sources others)) ys) where
   part : ArePartsOf (with_lots sources others) (lots ∷ [])
   part = record {
     same = λ x. subst (λ (list : List Lot). Among x others ↔ Among x list) (sym (append-nil lots)) (same x);

@@ -72,7 +72,10 @@ pub record IsEnded (sources : Sources) (list : List Member) (steps : List TraceS
   pub ends : IsDerived (derivation_of sources) list
   pub run : IsRun sources steps
 
-module _ (sources : Sources) (lots others : List Lot) (xs ys : List Member) (steps turns : List TraceStep) (y : Lot) (in_lots : Among y lots) (in_others : Among y others) (one : IsEnded (with_lots sources lots) xs steps) (other : IsEnded (with_lots sources others) ys turns) (same : (t : TraceStep) → t.lot ≡ y.name → Among t steps → Among t turns) where
+module _ (sources : Sources) (lots others : List Lot) (xs ys : List Member) (steps turns : List TraceStep)
+    (y : Lot) (in_lots : Among y lots) (in_others : Among y others)
+    (one : IsEnded (with_lots sources lots) xs steps) (other : IsEnded (with_lots sources others) ys turns)
+    (same : (t : TraceStep) → t.lot ≡ y.name → Among t steps → Among t turns) where
   abbrev One : Sources
   One = with_lots sources lots
 

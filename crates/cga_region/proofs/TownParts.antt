@@ -76,7 +76,8 @@ parts_are_apart towns sources differ (part ∷ parts) all [] derived far = absur
 parts_are_apart towns sources differ (part ∷ parts) all (xs ∷ lists) derived far =
     let rest = differ_right part (joined parts) all.differ in
     let own : ArePartsOf (with_lots sources (joined parts)) parts = record { same = λ x. ((λ h. h), (λ h. h)); differ = rest } in
-    let others : Whole (with_lots sources (joined parts)) lists = parts_are_apart towns (with_lots sources (joined parts)) rest parts own lists (with_parts parts lists derived.1) (behind sources.grammar xs lists far) in
+    let others : Whole (with_lots sources (joined parts)) lists = parts_are_apart towns
+    (with_lots sources (joined parts)) rest parts own lists (with_parts parts lists derived.1) (behind sources.grammar xs lists far) in
     let lots : AreLots sources part (joined parts) = record {
       each = λ x h. Among-append part (joined parts) x ((all.same x).0 h);
       left_lots = λ x h. (all.same x).1 (Among-left part (joined parts) x h);
@@ -85,7 +86,11 @@ parts_are_apart towns sources differ (part ∷ parts) all (xs ∷ lists) derived
     } in
     let apart : NoneAsks sources.grammar ⊎ (MeetsNone sources.grammar xs others.0 × MeetsNone sources.grammar others.0 xs) = elim far [
       | inl quiet ↦ inl quiet
-      | inr f ↦ inr (from_same sources.grammar xs (joined lists) others.0 others.2 (from_all sources.grammar xs lists f.0), to_same sources.grammar xs (joined lists) others.0 others.2 (to_all sources.grammar xs lists f.0))
+      | inr f ↦ inr (
+        from_same sources.grammar xs (joined lists) others.0 others.2
+            (from_all sources.grammar xs lists f.0),
+        to_same sources.grammar xs (joined lists) others.0 others.2 (to_all sources.grammar xs lists f.0),
+      )
     ] in
     let both = towns sources differ part (joined parts) lots xs others.0 derived.0 others.1 apart in
     (both.0, both.1, both_same xs (joined lists) others.0 both.0 others.2 both.2, omega (arith, both.3, others.3))

@@ -82,7 +82,9 @@ sees_not : (grammar : Grammar) (s m : Shape)
     → ((target : Target) → asks_for grammar s.symbol target ≡ true → meets (box_of m.scope) (box_of s.scope) ≡ false)
     → sees grammar s m ≡ false
 unfolding sees
-sees_not grammar s m h = off (asks_for grammar s.symbol Noparent || asks_for grammar s.symbol Active) (meets (box_of m.scope) (box_of s.scope)) (not (on_path m s)) (λ e. elim (either_asks (asks_for grammar s.symbol Noparent) (asks_for grammar s.symbol Active) e) [ inl a ↦ h Noparent a | inr a ↦ h Active a ])
+sees_not grammar s m h = off (asks_for grammar s.symbol Noparent || asks_for grammar s.symbol Active)
+    (meets (box_of m.scope) (box_of s.scope)) (not (on_path m s))
+    (λ e. elim (either_asks (asks_for grammar s.symbol Noparent) (asks_for grammar s.symbol Active) e) [ inl a ↦ h Noparent a | inr a ↦ h Active a ])
 
 module _ (sources : Sources) (differ : NamesDiffer sources.lots) (left right : List Lot) (lots : AreLots sources left right) where
   parts : AreParts (derivation_of sources) (roots_of left) (roots_of right)

@@ -141,7 +141,8 @@ module _ {N A F P : Type 0} (derivation : Derivation N A F P) where
               let now = kind_of (created n m) in
               let there = told_left (reached derivation n) m.shape (created n m) x now (become_at m.shape now (reached derivation n) x k h t) in
               inr (one.1, (now, subst (λ l. Has l x now) (sym (turned n m e)) there, kind_plain (created n m)))
-          | inr f ↦ inl (subst (λ l. Has l x k) (sym (turned n m e)) (told_left (reached derivation n) m.shape (created n m) x k (become_off m.shape (kind_of (created n m)) (reached derivation n) x k h f)))
+          | inr f ↦ inl (subst (λ l. Has l x k) (sym (turned n m e))
+              (told_left (reached derivation n) m.shape (created n m) x k (become_off m.shape (kind_of (created n m)) (reached derivation n) x k h f)))
         ]
 
     -- so a member that doesn't wait stays

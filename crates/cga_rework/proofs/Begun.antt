@@ -94,7 +94,9 @@ module _ {X S A B F P : Type 0} (shapes : Shapes S) (content : Content X S A F P
         r.other c b d x none t v top (ap (λ (m : Ranked S). m.shape) same) (one_same (content.priority x.node) (content.priority d.node) lines)
     | inr up ↦
         let u = parent_of shapes content old V was b up.0 x v up.1 in
-        path_not_empty (shapes.path (content.shape u.0.node)) x.index (sym (path_child shapes content old V was b up.0 x u.0 v up.1 u.1) ∙ ap (λ (m : Ranked S). shapes.path m.shape) same ∙ (city.root c d t (r.top c d none t)).path)
+        path_not_empty (shapes.path (content.shape u.0.node)) x.index
+        (sym (path_child shapes content old V was b up.0 x u.0 v up.1 u.1)
+        ∙ ap (λ (m : Ranked S). shapes.path m.shape) same ∙ (city.root c d t (r.top c d none t)).path)
   ]
 
 module _ {X S A B F P : Type 0} (shapes : Shapes S) (content : Content X S A F P) (old new : Rules S A B F P) (laws : IsRulesEdit shapes old new)
@@ -145,7 +147,8 @@ module _ {X S A B F P : Type 0} (shapes : Shapes S) (content : Content X S A F P
     new = inl (r.waits c d none t);
     bare = λ i m j a below h.
         let x = keeps-node content T great m j a h in
-        let under : IsChild (chain_of shapes (rank d.node)) i (chain_of shapes (rank x.1.node)) = subst (λ (y : Ranked S). IsChild (chain_of shapes (rank d.node)) i (chain_of shapes y)) (sym x.3) below in
+        let under : IsChild (chain_of shapes (rank d.node)) i
+        (chain_of shapes (rank x.1.node)) = subst (λ (y : Ranked S). IsChild (chain_of shapes (rank d.node)) i (chain_of shapes y)) (sym x.3) below in
         let is = child_is shapes content new T city x.0 c i x.1 d x.2 t under in
         none_some x.0 (ap (λ l. slice_get l i) (sym (r.leaf c d none t)) ∙ is.2);
     not_there = λ j a h alike solid. let x = keeps-node content V small (rank d.node) j a h in not_there c x.0 d x.1 none t x.2 x.3;
@@ -189,7 +192,8 @@ module _ {X S A B F P : Type 0} (shapes : Shapes S) (content : Content X S A F P
                   let x = keeps-node content V small p j b g in
                   let z = keeps-node content T great p j b g' in
                   let under : IsChild (chain_of shapes (rank x.1.node)) i (chain_of shapes (rank y.1.node)) =
-                  subst (λ (l : Ranked S). IsChild (chain_of shapes l) i (chain_of shapes (rank y.1.node))) (sym x.3) (subst (λ (l : Ranked S). IsChild (chain_of shapes p) i (chain_of shapes l)) (sym y.3) below) in
+                  subst (λ (l : Ranked S). IsChild (chain_of shapes l) i (chain_of shapes (rank y.1.node)))
+                  (sym x.3) (subst (λ (l : Ranked S). IsChild (chain_of shapes p) i (chain_of shapes l)) (sym y.3) below) in
                   let is = child_is shapes content old V was y.0 x.0 i y.1 x.1 y.2 x.2 under in
                   let parent_goes : gone x.0 ≡ true = sym (r.along y.0 x.0 y.1 y.2 is.0) ∙ goes in
                   elim (option_cases (V z.0)) [
@@ -209,7 +213,9 @@ module _ {X S A B F P : Type 0} (shapes : Shapes S) (content : Content X S A F P
       → is_instance (content.kind d.node) ≡ false → agenda c ≡ false
       → renewed edit.renew (edit.old.expand (rank d.node) (content.answers d.node)) ≡ edit.old.expand (rank d.node)
       (content.answers d.node)
-  renews c d v t g solid off = by (edit.old.expand n (content.answers d.node)) refl (settled (started.right n (content.kind d.node) (content.answers d.node) (keeps_as shapes content old V was small within c d n (content.kind d.node) (content.answers d.node) v refl refl refl) solid))
+  renews c d v t g solid off = by (edit.old.expand n (content.answers d.node)) refl
+      (settled (started.right n (content.kind d.node) (content.answers d.node)
+      (keeps_as shapes content old V was small within c d n (content.kind d.node) (content.answers d.node) v refl refl refl) solid))
     where
       n : Ranked S
       n = rank d.node
@@ -229,7 +235,8 @@ module _ {X S A B F P : Type 0} (shapes : Shapes S) (content : Content X S A F P
           let k = Keeps-Has start x.shape found.0 found.1 in
           let y = keeps-node content V small x.shape found.0 k.0 k.1 in
           let u = steps.child_of (old_world edit) (make shapes old new laws).old (rank d.node) (content.answers d.node) cs e x.shape x.kind (among-Has cs x i) in
-          let under : IsChild (chain_of shapes (rank d.node)) u.0 (chain_of shapes (rank y.1.node)) = subst (λ (l : Ranked S). IsChild (chain_of shapes (rank d.node)) u.0 (chain_of shapes l)) (sym y.3) u.5 in
+          let under : IsChild (chain_of shapes (rank d.node)) u.0
+          (chain_of shapes (rank y.1.node)) = subst (λ (l : Ranked S). IsChild (chain_of shapes (rank d.node)) u.0 (chain_of shapes l)) (sym y.3) u.5 in
           let is = child_is shapes content old V was y.0 c u.0 y.1 d y.2 v under in
           let here = stays content V T gone r y.0 y.1 y.2 (r.along y.0 c y.1 y.2 is.0 ∙ g) in
           let ends = ends_with shapes content old V was y.0 y.1 y.2 in
@@ -263,7 +270,9 @@ module _ {X S A B F P : Type 0} (shapes : Shapes S) (content : Content X S A F P
                 let kept = renews y.0 y.1 v y.2 is.0 plain off in
                 inr (
                   ap (λ (l : Ranked S). old.setting l.shape) (sym y.3) ∙ same ∙ ap (λ (l : Ranked S). new.setting l.shape) y.3,
-                  subst (λ b. renewed edit.renew (edit.old.expand n b) ≡ edit.old.expand n b) y.5 (subst (λ (l : Ranked S). renewed edit.renew (edit.old.expand l (content.answers y.1.node)) ≡ edit.old.expand l (content.answers y.1.node)) y.3 kept),
+                  subst (λ b. renewed edit.renew (edit.old.expand n b) ≡ edit.old.expand n b) y.5
+                      (subst (λ (l : Ranked S). renewed edit.renew (edit.old.expand l (content.answers y.1.node))
+                      ≡ edit.old.expand l (content.answers y.1.node)) y.3 kept),
                 )
           ]
         ]

@@ -86,8 +86,11 @@ module _ {X S A B F P : Type 0} (shapes : Shapes S) (content : Content X S A F P
         | inr f ↦ let z = stayed shapes content rules t y.0 y.1 y.2 f in none_some z.seen (sym y.3 ∙ z.here)
       ] in
       let f = sym y.4 in
-      let here = keeps_drawn shapes content rules t.V t.start small within y.0 y.1 x y.2 y.4 y.5 in
-      (here, λ g. gone_away shapes content old rules laws t small great within within' y.0 y.1 y.2 goes x.shape (ap (λ (l : Ranked S). shapes.lot l.shape) f, ap (λ (l : Ranked S). shapes.path l.shape) f) (Instance x.solid) here.0 g.0 here.1 g.1)
+      let here = keeps_drawn shapes content rules t.V t.start small within y.0 y.1 x y.2 y.4 y.5 in (
+        here,
+        λ g. gone_away shapes content old rules laws t small great within within' y.0 y.1 y.2 goes x.shape
+            (ap (λ (l : Ranked S). shapes.lot l.shape) f, ap (λ (l : Ranked S). shapes.path l.shape) f) (Instance x.solid) here.0 g.0 here.1 g.1,
+      )
 
   each_created : (x : Drawn (Ranked S) P) → Among x created → Draws after x × (Draws before x → ⊥)
   each_created x h =
@@ -124,7 +127,8 @@ module _ {X S A B F P : Type 0} (shapes : Shapes S) (content : Content X S A F P
       ]
 
   pub turn_change : IsChange before after removed created
-  turn_change = change before after removed created (once shapes content rules t.V t.start small) (once shapes content rules t.T city great) lost.once found.once each_removed each_created stays_or_removed was_or_created
+  turn_change = change before after removed created (once shapes content rules t.V t.start small)
+      (once shapes content rules t.T city great) lost.once found.once each_removed each_created stays_or_removed was_or_created
 
 module _ {X S A B F P : Type 0} (shapes : Shapes S) (content : Content X S A F P) (old new : Rules S A B F P) (V T : View X) (small great : ℕ) (gone : ℕ → Bool)
     (within : IsBound V small) (within' : IsBound T great) (was : IsCity shapes content old V) (city : IsCity shapes content new T) (r : IsRerooted content V T gone)
@@ -168,7 +172,8 @@ module _ {X S A B F P : Type 0} (shapes : Shapes S) (content : Content X S A F P
 pub lists_are_changes : {X S A B F P : Type 0} → ListsAreChanges X S A B F P
 lists_are_changes = record {
   turn = λ shapes content old new laws by_symbol fits asks meets is_fit V T small great id news e now gone agenda rest after expanded within within' under turn removed created lost found.
-      turn_change shapes content old new laws (replacing shapes content old new laws by_symbol fits asks meets is_fit V T small great id news e now gone agenda rest after expanded within within' under turn) small great within within' removed created lost found;
+      turn_change shapes content old new laws (replacing shapes content old new laws by_symbol fits asks meets
+      is_fit V T small great id news e now gone agenda rest after expanded within within' under turn) small great within within' removed created lost found;
   roots = λ shapes content old new V T small great gone within within' was city r removed lost. roots_change shapes content old new V T small great gone within within' was city r removed lost;
   quiet = λ content V n. record { removed_once = tt; created_once = tt; each_removed = λ d h. absurd h; each_created = λ d h. absurd h; balance = λ test. refl };
 }

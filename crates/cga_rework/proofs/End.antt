@@ -56,7 +56,12 @@ module _ {S A B F P : Type 0} (shapes : Shapes S) where
     new_list j = reached (derivation_of shapes new) j
 
     -- where the nodes are the members of a whole run, and what was expanded is what is touched
-    module _ (now : Nodes) (worked : List (Ranked S)) (i j : ℕ) (quiet_old : NothingWaits (derivation_of shapes old) (reached (derivation_of shapes old) i)) (quiet_new : NothingWaits (derivation_of shapes new) (reached (derivation_of shapes new) j)) (o : RankedRun shapes old laws.was i) (w : RankedRun shapes new laws.is j) (news : SameMembers (members_of now) w.1) (worked_once : Once worked) (reworked : (n : Ranked S) → (Among n worked → agenda.Touched edit o.1 w.1 n) × (agenda.Touched edit o.1 w.1 n → Among n worked)) where
+    module _ (now : Nodes) (worked : List (Ranked S)) (i j : ℕ)
+        (quiet_old : NothingWaits (derivation_of shapes old) (reached (derivation_of shapes old) i))
+        (quiet_new : NothingWaits (derivation_of shapes new) (reached (derivation_of shapes new) j))
+        (o : RankedRun shapes old laws.was i) (w : RankedRun shapes new laws.is j)
+        (news : SameMembers (members_of now) w.1) (worked_once : Once worked) (reworked : (n : Ranked S)
+        → (Among n worked → agenda.Touched edit o.1 w.1 n) × (agenda.Touched edit o.1 w.1 n → Among n worked)) where
       pub new_distinct : (n m : Ranked S) (k l : Kind F P) → Has w.1 n k → Has w.1 m l → n.shape ≡ m.shape → n ≡ m
       new_distinct n m k l h g e = ((steps.in_order (ranked_world shapes new) (is_world shapes new laws.is) w.0 w.1 w.2).distinct n m k l h g (λ t. (shapes.lot (e t), shapes.path (e t)))).0
 
@@ -113,7 +118,8 @@ module _ {S A B F P : Type 0} (shapes : Shapes S) where
 
         known_fits : (known : List (Ranked S)) → IsKnown edit now worked known
             → length known ≤ length (reached (derivation_of shapes new) j)
-        known_fits known knows = subst (λ n. length known ≤ n) size_of (known_derived edit made start started now queued turned worked good run.0 run.1 run.2 (quiet shapes new laws.is j settled run) known knows)
+        known_fits known knows = subst (λ n. length known ≤ n) size_of
+            (known_derived edit made start started now queued turned worked good run.0 run.1 run.2 (quiet shapes new laws.is j settled run) known knows)
 
         turned_fits : length turned ≤ length (reached (derivation_of shapes new) j)
         turned_fits = subst (λ n. length turned ≤ n) size_of (turned_derived edit made start started now queued turned worked good run.0 run.1 run.2 (quiet shapes new laws.is j settled run))
@@ -130,13 +136,20 @@ module _ {S A B F P : Type 0} (shapes : Shapes S) where
             ]
       ]
 
-      module _ (gone come : List (Drawn (Ranked S) P)) (kept : IsRecord edit start now worked gone come) (empty : (n : Ranked S) (k : Kind F P) (a : A) → Keeps now n k a → queued n ≡ false) (start_once : Once (shapes_of (members_of start))) (now_once : Once (shapes_of (members_of now))) (i j : ℕ) (quiet_old : NothingWaits (derivation_of shapes old) (reached (derivation_of shapes old) i)) (quiet_new : NothingWaits (derivation_of shapes new) (reached (derivation_of shapes new) j)) where
+      module _ (gone come : List (Drawn (Ranked S) P)) (kept : IsRecord edit start now worked gone come)
+          (empty : (n : Ranked S) (k : Kind F P) (a : A) → Keeps now n k a → queued n ≡ false)
+          (start_once : Once (shapes_of (members_of start))) (now_once : Once (shapes_of (members_of now)))
+          (i j : ℕ) (quiet_old : NothingWaits (derivation_of shapes old) (reached (derivation_of shapes old) i))
+          (quiet_new : NothingWaits (derivation_of shapes new) (reached (derivation_of shapes new) j)) where
         module _ (o : RankedRun shapes old laws.was i) (w : RankedRun shapes new laws.is j) where
           done : SameMembers (members_of now) w.1 × IsUpdate edit o.1 w.1 worked gone come
-          done = update edit made start started now queued turned worked gone come good kept empty (once_roots old laws.was) (once_roots new laws.is) start_once now_once o.0 w.0 o.1 w.1 o.2 (quiet shapes old laws.was i quiet_old o) w.2 (quiet shapes new laws.is j quiet_new w)
+          done = update edit made start started now queued turned worked gone come good kept empty
+              (once_roots old laws.was) (once_roots new laws.is) start_once now_once o.0 w.0 o.1 w.1 o.2
+              (quiet shapes old laws.was i quiet_old o) w.2 (quiet shapes new laws.is j quiet_new w)
 
           size : length now ≡ length (new_list j)
-          size = (all_derived edit made start started now queued turned worked good w.0 w.1 w.2 (quiet shapes new laws.is j quiet_new w) empty (once_roots new laws.is) now_once).1 ∙ (sym (length-map unranked w.1) ∙ ap length w.3)
+          size = (all_derived edit made start started now queued turned worked good w.0 w.1 w.2
+              (quiet shapes new laws.is j quiet_new w) empty (once_roots new laws.is) now_once).1 ∙ (sym (length-map unranked w.1) ∙ ap length w.3)
 
           old_distinct : (n m : Ranked S) (k l : Kind F P) → Has o.1 n k → Has o.1 m l
               → shapes.lot n.shape ≡ shapes.lot m.shape → shapes.path n.shape ≡ shapes.path m.shape → n ≡ m
@@ -186,7 +199,8 @@ module _ {S A B F P : Type 0} (shapes : Shapes S) where
 
           gone_once : Once (map unranked_drawn gone)
           gone_once = Once-map unranked_drawn gone done.1.gone_once (λ x y a b e.
-              let shape = old_distinct x.shape y.shape (Instance x.solid) (Instance y.solid) (done.1.each_gone x a).0 (done.1.each_gone y b).0 (λ t. shapes.lot (e t).shape) (λ t. shapes.path (e t).shape) in
+              let shape = old_distinct x.shape y.shape (Instance x.solid) (Instance y.solid)
+              (done.1.each_gone x a).0 (done.1.each_gone y b).0 (λ t. shapes.lot (e t).shape) (λ t. shapes.path (e t).shape) in
               λ t. record { shape = shape t; solid = (e t).solid })
 
           come_once : Once (map unranked_drawn come)
@@ -229,5 +243,6 @@ pub rework : {S A B F P : Type 0} → ReworkIsExact S A B F P
 rework shapes old new laws start now queued turned worked gone come started start_once good now_once kept empty list other (i, e, was) (j, f, is) =
     let settled_old = subst (NothingWaits (derivation_of shapes old)) e was in
     let settled_new = subst (NothingWaits (derivation_of shapes new)) f is in
-    let all = end shapes old new laws start started now queued turned worked good gone come kept empty start_once now_once i j settled_old settled_new (ranked_run shapes old laws.was i) (ranked_run shapes new laws.is j) in
+    let all = end shapes old new laws start started now queued turned worked good gone come kept empty start_once
+    now_once i j settled_old settled_new (ranked_run shapes old laws.was i) (ranked_run shapes new laws.is j) in
     subst (λ l. IsExactRework shapes old new now worked gone come l other) (sym e) (subst (IsExactRework shapes old new now worked gone come (reached (derivation_of shapes old) i)) (sym f) all)

@@ -112,7 +112,8 @@ module _ {X S A B F P : Type 0} (shapes : Shapes S) (content : Content X S A F P
 
   late : (c : ℕ) (d : Seen X) (n : Ranked S) → t.T c ≡ Some d → rank d.node ≡ n
       → IsEarlier w (stamp_of w s) (stamp_of w n) → ComesLater content shapes t.e.node d.node
-  late c d n u q h = later shapes content rules t.e.node d.node (keyed shapes content rules t.V t.start t.id t.e t.r.was) (keyed shapes content rules t.T city c d u) (subst (λ m. IsEarlier w (stamp_of w s) (stamp_of w m)) (sym q) h)
+  late c d n u q h = later shapes content rules t.e.node d.node (keyed shapes content rules t.V t.start t.id t.e
+      t.r.was) (keyed shapes content rules t.T city c d u) (subst (λ m. IsEarlier w (stamp_of w s) (stamp_of w m)) (sym q) h)
 
   -- what sees what went is on the agenda
   seen_removed : (b : ℕ) (x : Seen X) → t.V b ≡ Some x → t.T b ≡ None → QueuesWhatSees w nodes' s (rank x.node) requeued
@@ -183,7 +184,8 @@ module _ {X S A B F P : Type 0} (shapes : Shapes S) (content : Content X S A F P
             inl (
               content.kind x.seen.node,
               content.answers x.seen.node,
-              keeps_as shapes content rules t.T city great within' y.0 x.seen m (content.kind x.seen.node) (content.answers x.seen.node) x.here (rank_old shapes content rules t y.0 y.1 x.seen y.2 stay x.here ∙ y.3) refl refl,
+              keeps_as shapes content rules t.T city great within' y.0 x.seen m (content.kind x.seen.node)
+                  (content.answers x.seen.node) x.here (rank_old shapes content rules t y.0 y.1 x.seen y.2 stay x.here ∙ y.3) refl refl,
               x.same.instances ∙ ap is_instance y.4,
               λ i. x.same.solid (ap is_instance y.4 ∙ i) ∙ y.4,
             )
@@ -224,7 +226,11 @@ module _ {X S A B F P : Type 0} (shapes : Shapes S) (content : Content X S A F P
   queues_only m k a h q =
       let y = keeps-node content t.T great m k a h in
       let comes : (n : IsNewcomer y.0 y.1) → (i : ℕ) × IsChild (chain_of shapes s) i (chain_of shapes m) =
-      λ n. (n.place, subst (λ (l : Ranked S). IsChild (chain_of shapes s) n.place (chain_of shapes l)) y.3 (removed.comer_below shapes content old rules laws t small great within within' y.0 y.1 y.2 n)) in
+      λ n. (
+        n.place,
+        subst (λ (l : Ranked S). IsChild (chain_of shapes s) n.place (chain_of shapes l)) y.3
+            (removed.comer_below shapes content old rules laws t small great within within' y.0 y.1 y.2 n),
+      ) in
       elim (moved.only y.0 y.1 y.2 ((are' y.0 y.1 y.2).0 (ap requeued y.3 ∙ q))) [
         | inl u ↦
             let left = taken.left y.0 u.0 u.1 u.2 in

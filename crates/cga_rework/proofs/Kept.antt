@@ -83,7 +83,14 @@ module _ {S A B F P : Type 0} (shapes : Shapes S) (old new : Rules S A B F P) wh
               → m.kind ≡ k → ((j : ℕ) × IsChild (chain_of shapes s) j (chain_of shapes n)) → Has D s Done → SiteIs D n
           by t Waiting is kind child done = inr (s, child.0, done, child.1, sym (ap (λ x. x.priorities) is) ∙ ap (λ x. (chain_of shapes s).priorities ++ rules.priority x ∷ []) (ap (λ x. x.shape) is))
           by t Done is kind child done = inr (s, child.0, done, child.1, sym (ap (λ x. x.priorities) is) ∙ ap (λ x. (chain_of shapes s).priorities ++ rules.priority x ∷ []) (ap (λ x. x.shape) is))
-          by t (Faulted f) is kind child done = inr (s, child.0, done, child.1, sym (ap (λ x. x.priorities) is) ∙ ap (λ x. (chain_of shapes s).priorities ++ rules.priority x ∷ []) (ap (λ x. x.shape) is))
+          by t (Faulted f) is kind child done = inr (
+            s,
+            child.0,
+            done,
+            child.1,
+            sym (ap (λ x. x.priorities) is)
+                ∙ ap (λ x. (chain_of shapes s).priorities ++ rules.priority x ∷ []) (ap (λ x. x.shape) is),
+          )
           by t (Instance p) is kind child done = let x : true ≡ false = ap is_instance kind ∙ i in cc
 
       all_ranked-next : SitesAre C → SitesAre D
@@ -103,7 +110,9 @@ module _ {S A B F P : Type 0} (shapes : Shapes S) (old new : Rules S A B F P) wh
         → (above : List ℕ) × (n.priorities ≡ above ++ rules.priority n.shape ∷ [])
     last_is C n is = elim is [ inl r ↦ ([], r.1) | inr c ↦ ((chain_of shapes c.0).priorities, c.4) ]
 
-  module _ (olds : IsDerivation (derivation_of shapes old)) (news : IsDerivation (derivation_of shapes new)) (taken_old taken_new : List (Ranked S)) (O W : Sited) (run_old : Reached (world old olds) taken_old O) (run_new : Reached (world new news) taken_new W) where
+  module _ (olds : IsDerivation (derivation_of shapes old)) (news : IsDerivation (derivation_of shapes new))
+      (taken_old taken_new : List (Ranked S)) (O W : Sited) (run_old : Reached (world old olds) taken_old O)
+      (run_new : Reached (world new news) taken_new W) where
     good_old : steps.IsOrdered (world old olds) O
     good_old = steps.in_order (world old olds) (laws old olds) taken_old O run_old
 

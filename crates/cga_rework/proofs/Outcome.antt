@@ -106,7 +106,8 @@ module _ {X S A B F P : Type 0} (shapes : Shapes S) (content : Content X S A F P
   wanted_there m k a i h below =
       let y = keeps-node content t.T great m k a h in
       let under : IsChild (chain_of shapes (rank t.now.node)) i (chain_of shapes (rank y.1.node)) =
-      subst (λ (l : Ranked S). IsChild (chain_of shapes l) i (chain_of shapes (rank y.1.node))) (sym (rank_self shapes content rules t)) (subst (λ (l : Ranked S). IsChild (chain_of shapes s) i (chain_of shapes l)) (sym y.3) below) in
+      subst (λ (l : Ranked S). IsChild (chain_of shapes l) i (chain_of shapes (rank y.1.node)))
+      (sym (rank_self shapes content rules t)) (subst (λ (l : Ranked S). IsChild (chain_of shapes s) i (chain_of shapes l)) (sym y.3) below) in
       let is = child_is shapes content rules t.T city y.0 t.id i y.1 t.now y.2 t.r.is under in
       let x = t.r.each i y.0 is.2 in
       let c = child_at i x.0 x.1 in
@@ -130,7 +131,9 @@ module _ {X S A B F P : Type 0} (shapes : Shapes S) (content : Content X S A F P
       → child (placed_of content y) ≡ record { shape = rank y; kind = content.kind y }
   placed_is i y wanted =
       ap (λ above. placed rules.priority above (placed_of content y)) above_is
-      ∙ placed_below shapes content rules (content.line t.e.node) (content.priority t.e.node) (ends_with shapes content rules t.V t.start t.id t.e t.r.was) y (t.are.below i y wanted).line (λ q. t.are.priced i y wanted) (λ q. drawn_own i y wanted q)
+      ∙ placed_below shapes content rules (content.line t.e.node) (content.priority t.e.node)
+      (ends_with shapes content rules t.V t.start t.id t.e t.r.was) y (t.are.below i y wanted).line
+      (λ q. t.are.priced i y wanted) (λ q. drawn_own i y wanted q)
 
   -- the children are those of a list
   has_children : (children : List (Placed S F P)) → map (placed_of content) t.news ≡ children
@@ -146,7 +149,9 @@ module _ {X S A B F P : Type 0} (shapes : Shapes S) (content : Content X S A F P
         (subst (λ (y : Placed (Ranked S) F P). Stands (members_of after) y.shape y.kind) is (stands i.0 x.0 x.1)));
     only = λ c k a h i below.
         let x = wanted_there c k a i h below in
-        let at : slice_get (map child (map (placed_of content) t.news)) i ≡ Some (child (placed_of content x.0)) = get_map child (map (placed_of content) t.news) i (placed_of content x.0) (get_map (placed_of content) t.news i x.0 x.1) in
+        let at : slice_get (map child (map (placed_of content) t.news)) i ≡ Some
+        (child (placed_of content x.0)) = get_map child (map (placed_of content) t.news) i
+        (placed_of content x.0) (get_map (placed_of content) t.news i x.0 x.1) in
         let at' : slice_get (map child children) i ≡ Some (record { shape = rank x.0; kind = content.kind x.0 }) = ap (λ l. slice_get (map child l) i) (sym are) ∙ at ∙ ap Some (placed_is i x.0 x.1) in
         (content.kind x.0, subst (λ l. Has (map child children) l (content.kind x.0)) x.2 (slice_get-Has (map child children) i (record { shape = rank x.0; kind = content.kind x.0 }) at'));
   }
@@ -179,7 +184,9 @@ module _ {X S A B F P : Type 0} (shapes : Shapes S) (content : Content X S A F P
         let q = self_there k a h in (
           ap is_instance (sym q.0) ∙ t.self.is,
           sym q.1 ∙ x.answered,
-          subst (λ b. IsSettled w after s k (edit.new.expand s b)) q.1 (subst (λ j. IsSettled w after s j (edit.new.expand s (content.answers t.now.node))) q.0 (settled (rules.expand (content.shape t.e.node) (content.answers t.now.node)) x.outcome)),
+          subst (λ b. IsSettled w after s k (edit.new.expand s b)) q.1
+              (subst (λ j. IsSettled w after s j (edit.new.expand s (content.answers t.now.node))) q.0
+              (settled (rules.expand (content.shape t.e.node) (content.answers t.now.node)) x.outcome)),
         );
   }
 
@@ -217,8 +224,17 @@ module _ {X S A B F P : Type 0} (shapes : Shapes S) (content : Content X S A F P
         let x = wanted_there c k a i h below in
         let b = get_along t.news t.e.children i x.0 again.sized x.1 in
         let u = t.start.tree.down t.id i b.0 t.e t.r.was b.1 in
-        let q = renewed_is again i b.0 x.0 u.0 x.1 b.1 u.1 in
-        (rank u.0.node, content.kind u.0.node, content.answers u.0.node, u.0.index, keeps shapes content rules t.V t.start small within b.0 u.0 u.1, child_rank shapes content rules t.V t.start b.0 t.id u.0 t.e u.1 u.2 t.r.was, ap (λ (z : Placed (Ranked S) F P). z.shape) q ∙ x.2);
+        let q = renewed_is again i b.0 x.0 u.0 x.1 b.1 u.1 in (
+          rank u.0.node,
+          content.kind u.0.node,
+          content.answers u.0.node,
+          u.0.index,
+          keeps shapes content rules t.V
+              t.start small within b.0 u.0 u.1,
+          child_rank shapes content rules t.V t.start b.0 t.id u.0 t.e u.1 u.2
+              t.r.was,
+          ap (λ (z : Placed (Ranked S) F P). z.shape) q ∙ x.2,
+        );
   }
 
   pub places : IsRepriced shapes content old rules t.V small t.e t.now.node t.news

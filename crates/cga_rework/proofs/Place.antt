@@ -42,11 +42,15 @@ module _ {X S A B F P : Type 0} (shapes : Shapes S) (content : Content X S A F P
 
   pub earlier : (x y : X) → IsKeyed x → IsKeyed y → ComesLater content shapes x y
       → IsEarlier w (stamp_of w (rank x)) (stamp_of w (rank y))
-  earlier x y p q h = ap (λ c. stamps_cmp shapes.mode (stamp shapes.mode c) (stamp shapes.mode (chain_of shapes (rank y)))) p ∙ ap (λ c. stamps_cmp shapes.mode (stamp shapes.mode (kept_key content shapes x)) (stamp shapes.mode c)) q ∙ h
+  earlier x y p q h = ap (λ c. stamps_cmp shapes.mode (stamp shapes.mode c)
+      (stamp shapes.mode (chain_of shapes (rank y)))) p
+      ∙ ap (λ c. stamps_cmp shapes.mode (stamp shapes.mode (kept_key content shapes x)) (stamp shapes.mode c)) q ∙ h
 
   pub later : (x y : X) → IsKeyed x → IsKeyed y → IsEarlier w (stamp_of w (rank x)) (stamp_of w (rank y))
       → ComesLater content shapes x y
-  later x y p q h = sym (ap (λ c. stamps_cmp shapes.mode (stamp shapes.mode c) (stamp shapes.mode (chain_of shapes (rank y)))) p ∙ ap (λ c. stamps_cmp shapes.mode (stamp shapes.mode (kept_key content shapes x)) (stamp shapes.mode c)) q) ∙ h
+  later x y p q h = sym (ap (λ c. stamps_cmp shapes.mode (stamp shapes.mode c)
+      (stamp shapes.mode (chain_of shapes (rank y)))) p
+      ∙ ap (λ c. stamps_cmp shapes.mode (stamp shapes.mode (kept_key content shapes x)) (stamp shapes.mode c)) q) ∙ h
 
   module _ (T : View X) (city : IsCity shapes content rules T) where
     -- the parent of a node, one level above
@@ -192,7 +196,8 @@ module _ {X S A B F P : Type 0} (shapes : Shapes S) (content : Content X S A F P
 
       pub keeps_as : (c : ℕ) (d : Seen X) (n : Ranked S) (k : Kind F P) (a : A) → T c ≡ Some d → rank d.node ≡ n
           → content.kind d.node ≡ k → content.answers d.node ≡ a → Keeps nodes n k a
-      keeps_as c d n k a t q f g = subst (λ b. Keeps nodes n k b) g (subst (λ j. Keeps nodes n j (content.answers d.node)) f (subst (λ m. Keeps nodes m (content.kind d.node) (content.answers d.node)) q (keeps c d t)))
+      keeps_as c d n k a t q f g = subst (λ b. Keeps nodes n k b) g
+          (subst (λ j. Keeps nodes n j (content.answers d.node)) f (subst (λ m. Keeps nodes m (content.kind d.node) (content.answers d.node)) q (keeps c d t)))
 
       pub is_tree : agenda.IsTree w nodes
       is_tree = record {
@@ -206,8 +211,14 @@ module _ {X S A B F P : Type 0} (shapes : Shapes S) (content : Content X S A F P
         roots = λ n root.
             let r = Among-map (root_ranked rules) rules.roots n root in
             let x = city.tops.tops r.0 r.1 in
-            let q : rank x.1.node ≡ n = root_is x.0 x.1 x.2 x.3 ∙ ap (root_ranked rules) x.4 ∙ r.2 in
-            (content.kind x.1.node, content.answers x.1.node, keeps_as x.0 x.1 n (content.kind x.1.node) (content.answers x.1.node) x.2 q refl refl, (city.root x.0 x.1 x.2 x.3).inner, λ i. let z : false ≡ true = i in absurd (cc));
+            let q : rank x.1.node ≡ n = root_is x.0 x.1 x.2 x.3 ∙ ap (root_ranked rules) x.4 ∙ r.2 in (
+              content.kind x.1.node,
+              content.answers x.1.node,
+              keeps_as x.0 x.1 n (content.kind x.1.node)
+                  (content.answers x.1.node) x.2 q refl refl,
+              (city.root x.0 x.1 x.2 x.3).inner,
+              λ i. let z : false ≡ true = i in absurd (cc),
+            );
         under = λ n k a h.
             let x = keeps-node content T bound n k a h in
             elim (option_cases x.1.parent) [
@@ -215,6 +226,14 @@ module _ {X S A B F P : Type 0} (shapes : Shapes S) (content : Content X S A F P
               | inr up ↦
                   (let v = parent_of x.0 up.0 x.1 x.2 up.1 in
                   let below = child_rank x.0 up.0 x.1 v.0 x.2 up.1 v.1 in
-                  inr (rank v.0.node, content.kind v.0.node, content.answers v.0.node, x.1.index, keeps up.0 v.0 v.1, (city.child x.0 up.0 x.1 v.0 x.2 up.1 v.1).inner, subst (λ (m : Ranked S). IsChild (chain_of shapes (rank v.0.node)) x.1.index (chain_of shapes m)) x.3 below))
+                  inr (
+                    rank v.0.node,
+                    content.kind v.0.node,
+                    content.answers v.0.node,
+                    x.1.index,
+                    keeps up.0 v.0 v.1,
+                    (city.child x.0 up.0 x.1 v.0 x.2 up.1 v.1).inner,
+                    subst (λ (m : Ranked S). IsChild (chain_of shapes (rank v.0.node)) x.1.index (chain_of shapes m)) x.3 below,
+                  ))
             ];
       }

@@ -52,14 +52,16 @@ module _ {X S A B F P : Type 0} (shapes : Shapes S) (content : Content X S A F P
       → IsChild (chain_of shapes s) n.place (chain_of shapes (rank d.node))
   comer_below c d u n =
       let below = child_rank shapes content rules t.T city c t.id d t.now u n.parent t.r.is in
-      subst (λ i. IsChild (chain_of shapes s) i (chain_of shapes (rank d.node))) n.index (subst (λ (m : Ranked S). IsChild (chain_of shapes m) d.index (chain_of shapes (rank d.node))) (rank_self shapes content rules t) below)
+      subst (λ i. IsChild (chain_of shapes s) i (chain_of shapes (rank d.node))) n.index
+      (subst (λ (m : Ranked S). IsChild (chain_of shapes m) d.index (chain_of shapes (rank d.node))) (rank_self shapes content rules t) below)
 
   -- and wasn't there
   pub not_there : (c b : ℕ) (d x : Seen X) → t.T c ≡ Some d → IsComer shapes content rules t c d → t.V b ≡ Some x
       → rank x.node ≡ rank d.node → is_instance (content.kind x.node) ≡ is_instance (content.kind d.node)
       → (is_instance (content.kind d.node) ≡ true → content.kind x.node ≡ content.kind d.node) → ⊥
   not_there c b d x u n v same alike solid =
-      let below : IsChild (chain_of shapes s) n.place (chain_of shapes (rank x.node)) = subst (λ (m : Ranked S). IsChild (chain_of shapes s) n.place (chain_of shapes m)) (sym same) (comer_below c d u n) in
+      let below : IsChild (chain_of shapes s) n.place (chain_of shapes (rank x.node)) = subst (λ (m : Ranked S).
+      IsChild (chain_of shapes s) n.place (chain_of shapes m)) (sym same) (comer_below c d u n) in
       let is = child_is shapes content rules t.V t.start b t.id n.place x t.e v t.r.was below in
       elim (bool_cases (t.gone b)) [
         | inr stay ↦
@@ -100,7 +102,8 @@ module _ {X S A B F P : Type 0} (shapes : Shapes S) (content : Content X S A F P
     new = subst (λ y. IsNew (content.kind y)) (sym n.node) (t.are.fresh n.place n.asked_for n.wanted);
     bare = λ i m j a below h.
         let x = keeps-node content t.T great m j a h in
-        let under : IsChild (chain_of shapes (rank d.node)) i (chain_of shapes (rank x.1.node)) = subst (λ (y : Ranked S). IsChild (chain_of shapes (rank d.node)) i (chain_of shapes y)) (sym x.3) below in
+        let under : IsChild (chain_of shapes (rank d.node)) i
+        (chain_of shapes (rank x.1.node)) = subst (λ (y : Ranked S). IsChild (chain_of shapes (rank d.node)) i (chain_of shapes y)) (sym x.3) below in
         let is = child_is shapes content rules t.T city x.0 c i x.1 d x.2 u under in
         none_some x.0 (ap (λ l. slice_get l i) (sym n.leaf) ∙ is.2);
     not_there = λ j a h alike solid.
@@ -136,7 +139,8 @@ module _ {X S A B F P : Type 0} (shapes : Shapes S) (content : Content X S A F P
       let z = u.2 in
       elim up.2 [
         | inl q ↦ late.child edit made s (rank d.node) d.index (self_child c up.0 d v up.1 q)
-        | inr goes ↦ late.further edit made s (rank u.0.node) (rank d.node) d.index (child_rank shapes content rules t.V t.start c up.0 d u.0 v up.1 u.1) (removed_late n up.0 u.0 (omega (arith, z, deep)) u.1 goes)
+        | inr goes ↦ late.further edit made s (rank u.0.node) (rank d.node) d.index
+            (child_rank shapes content rules t.V t.start c up.0 d u.0 v up.1 u.1) (removed_late n up.0 u.0 (omega (arith, z, deep)) u.1 goes)
       ]
 
   abbrev places_of : Ranked S → Ranked S → Type 0

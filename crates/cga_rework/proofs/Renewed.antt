@@ -91,7 +91,8 @@ module _ {X S A B F P : Type 0} (shapes : Shapes S) (content : Content X S A F P
       by Waiting e = let q = shown (rules.priority (content.shape y)) (new (ap is_instance e)) in λ i. record { shape = record { shape = content.shape y; priorities = q i }; kind = Waiting }
       by Done e = let q = shown (rules.priority (content.shape y)) (new (ap is_instance e)) in λ i. record { shape = record { shape = content.shape y; priorities = q i }; kind = Done }
       by (Faulted f) e = let q = shown (rules.priority (content.shape y)) (new (ap is_instance e)) in λ i. record { shape = record { shape = content.shape y; priorities = q i }; kind = Faulted f }
-      by (Instance p) e = let q = shown (last_of above) (solid (ap is_instance e) ∙ sym (last_is above own ends)) in λ i. record { shape = record { shape = content.shape y; priorities = q i }; kind = Instance p }
+      by (Instance p) e = let q = shown (last_of above) (solid (ap is_instance e)
+          ∙ sym (last_is above own ends)) in λ i. record { shape = record { shape = content.shape y; priorities = q i }; kind = Instance p }
 
   -- and so is one from before, with its new priority
   pub renewed_below : (old : Rules S A B F P) (above : List ℕ) (x y : X)

@@ -47,10 +47,12 @@ module _ {S F P : Type 0} where
   where-erased : (test : Kind F P → Bool) (ms : List (Placed (Ranked S) F P))
       → map shape_of (shapes_where (λ n k. test k) ms) ≡ shapes_where (λ n k. test k) (map unranked ms)
   where-erased test [] = refl
-  where-erased test (m ∷ ms) = elim (test m.kind) as (λ b. map shape_of (cond b (m.shape ∷ shapes_where (λ n k. test k) ms) (shapes_where (λ n k. test k) ms)) ≡ cond b (m.shape.shape ∷ shapes_where (λ n k. test k) (map unranked ms)) (shapes_where (λ n k. test k) (map unranked ms))) [
-    | true ↦ ap (λ xs. m.shape.shape ∷ xs) (where-erased test ms)
-    | false ↦ where-erased test ms
-  ]
+  where-erased test (m ∷ ms) = elim (test m.kind) as (λ b. map shape_of
+      (cond b (m.shape ∷ shapes_where (λ n k. test k) ms) (shapes_where (λ n k. test k) ms)) ≡ cond b
+      (m.shape.shape ∷ shapes_where (λ n k. test k) (map unranked ms)) (shapes_where (λ n k. test k) (map unranked ms))) [
+        | true ↦ ap (λ xs. m.shape.shape ∷ xs) (where-erased test ms)
+        | false ↦ where-erased test ms
+      ]
 
   abbrev pub erased_result : Result (List (Placed (Ranked S) F P)) F → Result (List (Placed S F P)) F
   erased_result (Ok cs) = Ok (map unranked cs)
@@ -102,7 +104,8 @@ module _ {S A B F P : Type 0} (shapes : Shapes S) (rules : Rules S A B F P) (are
 
   become-erased : (n : Ranked S) (k : Kind F P) (m : Placed (Ranked S) F P)
       → unranked (run.become world n k m) ≡ become derivation n.shape k (unranked m)
-  become-erased n k m = elim (same_place derivation m.shape.shape n.shape) as (λ b. unranked (cond b (record { shape = m.shape; kind = k }) m) ≡ cond b (record { shape = m.shape.shape; kind = k }) (unranked m)) [ true ↦ refl | false ↦ refl ]
+  become-erased n k m = elim (same_place derivation m.shape.shape n.shape) as (λ b. unranked
+      (cond b (record { shape = m.shape; kind = k }) m) ≡ cond b (record { shape = m.shape.shape; kind = k }) (unranked m)) [ true ↦ refl | false ↦ refl ]
 
   all-become : (n : Ranked S) (k : Kind F P) (C : Sited)
       → map unranked (map (run.become world n k) C) ≡ map (become derivation n.shape k) (map unranked C)
@@ -172,7 +175,8 @@ module _ {S A B F P : Type 0} (shapes : Shapes S) (rules : Rules S A B F P) (are
   ranks-reached (s ∷ taken) D (C, reached, step) = ranks-next C D s (steps.in_order world laws taken C reached) step (ranks-reached taken C reached)
 
   start-erased : map unranked (run.start world) ≡ start derivation
-  start-erased = map-map unranked (λ n. record { shape = n; kind = Waiting }) world.roots ∙ map-map (λ n. record { shape = n.shape; kind = Waiting }) (λ s. record { shape = s; priorities = rules.priority s ∷ [] }) rules.roots
+  start-erased = map-map unranked (λ n. record { shape = n; kind = Waiting }) world.roots
+      ∙ map-map (λ n. record { shape = n.shape; kind = Waiting }) (λ s. record { shape = s; priorities = rules.priority s ∷ [] }) rules.roots
 
   -- so many steps are those of a run over ranked shapes, in which the same answers were got
   abbrev pub RankedRun : ℕ → Type 0
@@ -217,9 +221,12 @@ module _ {S A B F P : Type 0} (shapes : Shapes S) (rules : Rules S A B F P) (are
             waits = s.1;
             least = λ x h less.
                 let there = subst (λ y. Has y x.shape Waiting) w.3 (unranked-Has C x Waiting h) in
-                let all = list_all-at (λ z. not (is_waiting z.kind && is_lt (rank_cmp shapes.mode (rank_of derivation z.shape) (rank_of derivation t.shape)))) (reached derivation n) x.shape Waiting passes.1 there in
+                let all = list_all-at (λ z. not (is_waiting z.kind
+                && is_lt (rank_cmp shapes.mode (rank_of derivation z.shape) (rank_of derivation t.shape))))
+                (reached derivation n) x.shape Waiting passes.1 there in
                 let lt : rank_cmp shapes.mode (rank_of derivation x.shape) (rank_of derivation t.shape) ≡ Less =
-                ap (λ y. rank_cmp shapes.mode y (rank_of derivation t.shape)) (sym (ranks x h)) ∙ (ap (rank_cmp shapes.mode (rank (chain_of shapes x))) (sym (ranks s.0 s.1 ∙ ap (rank_of derivation) s.2)) ∙ less) in
+                ap (λ y. rank_cmp shapes.mode y (rank_of derivation t.shape)) (sym (ranks x h))
+                ∙ (ap (rank_cmp shapes.mode (rank (chain_of shapes x))) (sym (ranks s.0 s.1 ∙ ap (rank_of derivation) s.2)) ∙ less) in
                 let f : not (is_lt Less) ≡ true = ap (λ o. not (is_lt o)) (sym lt) ∙ all in
                 let x : false ≡ true = f in
                 cc;

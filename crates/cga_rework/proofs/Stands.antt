@@ -25,9 +25,12 @@ module _ {S A B F P : Type 0} (shapes : Shapes S) (rules : Rules S A B F P) (are
   laws : IsWorld world
   laws = is_world shapes rules are
 
-  module _ (nodes : List (Node (Ranked S) A F P)) (tree : IsTree world nodes) (right : AllRight world nodes (λ n. false)) (i : ℕ) (settled : NothingWaits (derivation_of shapes rules) (reached (derivation_of shapes rules) i)) (w : RankedRun shapes rules are i) where
+  module _ (nodes : List (Node (Ranked S) A F P)) (tree : IsTree world nodes)
+      (right : AllRight world nodes (λ n. false)) (i : ℕ) (settled : NothingWaits (derivation_of shapes rules)
+      (reached (derivation_of shapes rules) i)) (w : RankedRun shapes rules are i) where
     same : SameMembers (members_of nodes) w.1
-    same = same_members world laws (members_of nodes) (right_consistent world laws nodes (λ n. false) None tree right (λ n k a h q b. let x : false ≡ true = q in cc)) w.0 w.1 w.2 (quiet shapes rules are i settled w)
+    same = same_members world laws (members_of nodes) (right_consistent world laws nodes (λ n. false) None tree
+        right (λ n k a h q b. let x : false ≡ true = q in cc)) w.0 w.1 w.2 (quiet shapes rules are i settled w)
 
     abbrev list : List (Placed S F P)
     list = reached (derivation_of shapes rules) i

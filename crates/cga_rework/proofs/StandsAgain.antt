@@ -20,12 +20,14 @@ module _ {X S A B F P : Type 0} (shapes : Shapes S) (content : Content X S A F P
       (working : IsWorking (edit_of shapes old new) start (nodes_of content T n) queued turned worked)
       (none : NoneQueued (edit_of shapes old new) (nodes_of content T n) queued) where
     off : (c : ℕ) (d : Seen X) → T c ≡ Some d → agenda c ≡ true → ⊥
-    off c d t q = true_false (queued (ranked_of content d.node)) ((are c d t).1 q) (none (ranked_of content d.node) (content.kind d.node) (content.answers d.node) (node-keeps content T n c d (bound c d t) t))
+    off c d t q = true_false (queued (ranked_of content d.node)) ((are c d t).1 q)
+        (none (ranked_of content d.node) (content.kind d.node) (content.answers d.node) (node-keeps content T n c d (bound c d t) t))
 
     pub done : Stands shapes content new asks T
     done = record {
       city = under.city;
-      started = λ m b. subst (λ l. IsStart (edit_of shapes new new) l) (sym (same_bound content T n m bound b)) (again shapes old new new start (nodes_of content T n) queued turned worked working none);
+      started = λ m b. subst (λ l. IsStart (edit_of shapes new new) l) (sym (same_bound content T n m bound b))
+          (again shapes old new new start (nodes_of content T n) queued turned worked working none);
       priced = λ c d t solid. elim (option_cases d.parent) [
         | inl top ↦ (under.city.tops.top c d t top).1
         | inr up ↦
@@ -78,7 +80,8 @@ module _ {X S A B F P : Type 0} (shapes : Shapes S) (content : Content X S A F P
 -- what work leaves stands; what stands starts an edit; put back, it stands; no nodes stand for rules without lots
 pub stands_again : {X S A B F P : Type 0} → StandsAgain X S A B F P
 stands_again = record {
-  done = λ shapes content old new asks T n start agenda queued turned worked bound under are working none. done shapes content old new asks T n start agenda queued turned worked bound under are working none;
+  done = λ shapes content old new asks T n start agenda queued turned worked bound under are working none. done
+      shapes content old new asks T n start agenda queued turned worked bound under are working none;
   start = λ shapes content old new asks V n bound stood. let x = stood.started n bound in record { tree = x.tree; right = x.right };
   back = λ shapes content rules asks V T same stood. subst (λ U. Stands shapes content rules asks U) (sym (same_view content V T same)) stood;
   nothing = λ shapes content rules asks V none. empty shapes content rules asks V none;

@@ -18,7 +18,8 @@ use Rattle.cga_order.proofs.Door as steps
 use Rattle.cga_agenda.specs.Edit as agenda
 
 module _ {S A B F P : Type 0} (shapes : Shapes S) where
-  module _ (rules : Rules S A B F P) (are : IsDerivation (derivation_of shapes rules)) (steps_done : ℕ) (settled : NothingWaits (derivation_of shapes rules) (reached (derivation_of shapes rules) steps_done)) (r : RankedRun shapes rules are steps_done) where
+  module _ (rules : Rules S A B F P) (are : IsDerivation (derivation_of shapes rules)) (steps_done : ℕ)
+      (settled : NothingWaits (derivation_of shapes rules) (reached (derivation_of shapes rules) steps_done)) (r : RankedRun shapes rules are steps_done) where
     abbrev world : World (Ranked S) A F P
     world = ranked_world shapes rules
 
@@ -45,7 +46,9 @@ module _ {S A B F P : Type 0} (shapes : Shapes S) where
         let u = r.5 n.shape a (answered_by (derivation_of shapes rules) steps_done settled n.shape a h) in
         (own world (is_world shapes rules are) r.0 r.1 r.2 quiet).0 u.0 a u.2 ∙ ap (answers_at world r.1) (the_ranked n u.0 a is u.1 u.2)
 
-  module _ (old new : Rules S A B F P) (laws : IsRulesEdit shapes old new) (i j : ℕ) (quiet_old : NothingWaits (derivation_of shapes old) (reached (derivation_of shapes old) i)) (quiet_new : NothingWaits (derivation_of shapes new) (reached (derivation_of shapes new) j)) where
+  module _ (old new : Rules S A B F P) (laws : IsRulesEdit shapes old new) (i j : ℕ)
+      (quiet_old : NothingWaits (derivation_of shapes old) (reached (derivation_of shapes old) i))
+      (quiet_new : NothingWaits (derivation_of shapes new) (reached (derivation_of shapes new) j)) where
     abbrev edit : Edit (Ranked S) A B F P
     edit = edit_of shapes old new
 
@@ -75,8 +78,15 @@ module _ {S A B F P : Type 0} (shapes : Shapes S) where
 
       inputs_shape : (n : Ranked S) → NonInstance w.1 n → NonInstance o.1 n → agenda.SameInputs edit o.1 w.1 n
           → SameInputs shapes old new n.shape
-      inputs_shape n is was same =
-          (same.0, (answers_at (ranked_world shapes new) w.1 n, subst (Answered (derivation_of shapes old) n.shape) same.1 (to_own old laws.was i quiet_old o n was), to_own new laws.is j quiet_new w n is))
+      inputs_shape n is was same = (
+        same.0,
+        (
+          answers_at (ranked_world shapes new) w.1 n,
+          subst (Answered (derivation_of shapes old) n.shape)
+              same.1 (to_own old laws.was i quiet_old o n was),
+          to_own new laws.is j quiet_new w n is,
+        ),
+      )
 
       pub inputs_ranked : (n : Ranked S) → NonInstance w.1 n → NonInstance o.1 n → SameInputs shapes old new n.shape
           → agenda.SameInputs edit o.1 w.1 n

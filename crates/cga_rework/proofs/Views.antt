@@ -113,7 +113,9 @@ module _ {X S A B F P : Type 0} (shapes : Shapes S) (content : Content X S A F P
     | inl top ↦ ap is_lt (root-before shapes.mode (chain_of shapes (rank d.node)) (chain_of shapes (rank q.node)) (city.root c d t top).path) ∙ ap (there_at shapes content T q.node) (sym top)
     | inr up ↦
         let v = parent_of shapes content rules T city c up.0 d t up.1 in
-        let born = birth-child shapes.mode (chain_of shapes (rank v.0.node)) d.index (chain_of shapes (rank d.node)) (length-fitted (length (shapes.path (content.shape v.0.node)) + 1) (content.line v.0.node)) (child_rank shapes content rules T city c up.0 d v.0 t up.1 v.1) in
+        let born = birth-child shapes.mode (chain_of shapes (rank v.0.node)) d.index
+        (chain_of shapes (rank d.node)) (length-fitted (length (shapes.path (content.shape v.0.node)) + 1)
+        (content.line v.0.node)) (child_rank shapes content rules T city c up.0 d v.0 t up.1 v.1) in
         ap (λ x. is_lt (stamps_cmp shapes.mode x (stamp shapes.mode (chain_of shapes (rank q.node))))) born
         ∙ ap (λ x. is_lt (stamps_cmp shapes.mode (stamp shapes.mode x) (stamp shapes.mode (chain_of shapes (rank q.node))))) (keyed shapes content rules T city up.0 v.0 v.1)
         ∙ ap (λ x. is_lt (stamps_cmp shapes.mode (stamp shapes.mode (kept_key content shapes v.0.node)) (stamp shapes.mode x))) (keyed shapes content rules T city b q u)
@@ -124,9 +126,14 @@ module _ {X S A B F P : Type 0} (shapes : Shapes S) (content : Content X S A F P
   waits_same : (c b : ℕ) (d q : Seen X) → T c ≡ Some d → T b ≡ Some q
       → waits_at w (rank q.node) (rank d.node) (content.kind d.node) ≡ waits_then shapes content T q.node d
   waits_same c b d q t u =
-      ap (λ x. x && not (is_instance (content.kind d.node)) && is_lt (stamps_cmp shapes.mode (stamp shapes.mode (chain_of shapes (rank q.node))) (stamp shapes.mode (chain_of shapes (rank d.node))))) (exists_same c b d q t u)
-      ∙ ap (λ x. exists_then shapes content T q.node d && not (is_instance (content.kind d.node)) && is_lt (stamps_cmp shapes.mode (stamp shapes.mode x) (stamp shapes.mode (chain_of shapes (rank d.node))))) (keyed shapes content rules T city b q u)
-      ∙ ap (λ x. exists_then shapes content T q.node d && not (is_instance (content.kind d.node)) && is_lt (stamps_cmp shapes.mode (stamp shapes.mode (kept_key content shapes q.node)) (stamp shapes.mode x))) (keyed shapes content rules T city c d t)
+      ap (λ x. x && not (is_instance (content.kind d.node))
+      && is_lt (stamps_cmp shapes.mode (stamp shapes.mode (chain_of shapes (rank q.node)))
+      (stamp shapes.mode (chain_of shapes (rank d.node))))) (exists_same c b d q t u)
+      ∙ ap (λ x. exists_then shapes content T q.node d && not (is_instance (content.kind d.node))
+      && is_lt (stamps_cmp shapes.mode (stamp shapes.mode x) (stamp shapes.mode (chain_of shapes (rank d.node))))) (keyed shapes content rules T city b q u)
+      ∙ ap (λ x. exists_then shapes content T q.node d && not (is_instance (content.kind d.node))
+      && is_lt (stamps_cmp shapes.mode (stamp shapes.mode (kept_key content shapes q.node))
+      (stamp shapes.mode x))) (keyed shapes content rules T city c d t)
 
   module _ (n : ℕ) (bounded : IsBound T n) (b : ℕ) (q : Seen X) (u : T b ≡ Some q) where
     counted_same : (test : Ranked S → Kind F P → Bool) (walked : Seen X → Bool)
@@ -148,15 +155,19 @@ module _ {X S A B F P : Type 0} (shapes : Shapes S) (content : Content X S A F P
           let y = has.is m h in
           let passes : test (rank y.1.node) (content.kind y.1.node) ≡ true = same y.0 y.1 y.2 ∙ y.3 in
           let there = (by_nodes n bounded test (rank y.1.node)).1 (y.0, y.1, y.2, refl, passes) in
-          subst (λ s. Among s (map (λ (r : Ranked S). r.shape) (shapes_where test (members_of (nodes_of content T n))))) y.4 (map-Among (λ (r : Ranked S). r.shape) (shapes_where test (members_of (nodes_of content T n))) (rank y.1.node) there),
+          subst (λ s. Among s (map (λ (r : Ranked S). r.shape)
+          (shapes_where test (members_of (nodes_of content T n))))) y.4
+          (map-Among (λ (r : Ranked S). r.shape) (shapes_where test (members_of (nodes_of content T n))) (rank y.1.node) there),
     )
 
 pub walk_asks : {X S A B F P : Type 0} → WalkAsks X S A B F P
 walk_asks shapes content old new laws T n bounded city c q u existing waiting ex wt =
     let w = ranked_world shapes new in
     laws.is.local (content.shape q.node) _ _ _ _
-    (λ m v. counted_same shapes content new T city n bounded c q u (exists_at w (ranked_of content q.node)) (exists_then shapes content T q.node) (λ b d t. exists_same shapes content new T city b c d q t u) existing ex m v)
-    (λ m v. counted_same shapes content new T city n bounded c q u (waits_at w (ranked_of content q.node)) (waits_then shapes content T q.node) (λ b d t. waits_same shapes content new T city b c d q t u) waiting wt m v)
+    (λ m v. counted_same shapes content new T city n bounded c q u (exists_at w (ranked_of content q.node))
+    (exists_then shapes content T q.node) (λ b d t. exists_same shapes content new T city b c d q t u) existing ex m v)
+    (λ m v. counted_same shapes content new T city n bounded c q u (waits_at w (ranked_of content q.node))
+    (waits_then shapes content T q.node) (λ b d t. waits_same shapes content new T city b c d q t u) waiting wt m v)
 
 -- equal views have equal lists; a list is as long as its view has nodes; in a city each node stands once
 pub lists_are_views : {X S A B F P : Type 0} → ListsAreViews X S A B F P

@@ -47,8 +47,14 @@ taken_is_priced {X} {S} {A} {B} {F} {P} shapes content rules derives asks V id e
             let key_u = keyed shapes content rules V under.city up.0 u.0 u.1 in
             let one : IsEarlier w (stamp_of w (ranked_of content e.node)) (stamp_of w (ranked_of content u.0.node)) = earlier shapes content rules e.node u.0.node key_e key_u left.2 in
             let other : IsEarlier w (stamp_of w (ranked_of content u.0.node)) (stamp_of w (ranked_of content e.node)) =
-            stamp-child shapes.mode (chain_of shapes (ranked_of content u.0.node)) e.index (chain_of shapes (ranked_of content e.node)) (length-fitted (length (shapes.path (content.shape u.0.node)) + 1) (content.line u.0.node)) (child_rank shapes content rules V under.city id up.0 e u.0 taken.here up.1 u.1) in
-            absurd (stamps.not_self (stamps_cmp shapes.mode) (stamps_total shapes.mode) (stamp_of w (ranked_of content e.node)) ((stamps_total shapes.mode).trans (stamp_of w (ranked_of content e.node)) (stamp_of w (ranked_of content u.0.node)) (stamp_of w (ranked_of content e.node)) one other))
+            stamp-child shapes.mode (chain_of shapes (ranked_of content u.0.node)) e.index
+            (chain_of shapes (ranked_of content e.node))
+            (length-fitted (length (shapes.path (content.shape u.0.node)) + 1) (content.line u.0.node))
+            (child_rank shapes content rules V under.city id up.0 e u.0 taken.here up.1 u.1) in
+            absurd (stamps.not_self (stamps_cmp shapes.mode) (stamps_total shapes.mode)
+            (stamp_of w (ranked_of content e.node))
+            ((stamps_total shapes.mode).trans (stamp_of w (ranked_of content e.node))
+            (stamp_of w (ranked_of content u.0.node)) (stamp_of w (ranked_of content e.node)) one other))
       ]
 ]
 
@@ -103,11 +109,16 @@ module _ {X S A B F P : Type 0} (shapes : Shapes S) (content : Content X S A F P
           | inr x ↦ inr (x.0, places shapes content old new replacing small great within within' x.1)
         ],
       );
-      tree = fields.tree shapes content old new laws replacing small great within within' asks meets sees_is agenda rest after under.priced under.asking turn.self_asks turn.taken turn.moved queued requeued are are';
-      from = fields.from shapes content old new laws replacing small great within within' asks meets sees_is agenda rest after under.priced under.asking turn.self_asks turn.taken turn.moved queued requeued are are';
-      to = fields.to shapes content old new laws replacing small great within within' asks meets sees_is agenda rest after under.priced under.asking turn.self_asks turn.taken turn.moved queued requeued are are';
-      queued_still = fields.queued_still shapes content old new laws replacing small great within within' asks meets sees_is agenda rest after under.priced under.asking turn.self_asks turn.taken turn.moved queued requeued are are';
-      queues_only = fields.queues_only shapes content old new laws replacing small great within within' asks meets sees_is agenda rest after under.priced under.asking turn.self_asks turn.taken turn.moved queued requeued are are';
+      tree = fields.tree shapes content old new laws replacing small great within within' asks meets sees_is agenda
+          rest after under.priced under.asking turn.self_asks turn.taken turn.moved queued requeued are are';
+      from = fields.from shapes content old new laws replacing small great within within' asks meets sees_is agenda
+          rest after under.priced under.asking turn.self_asks turn.taken turn.moved queued requeued are are';
+      to = fields.to shapes content old new laws replacing small great within within' asks meets sees_is agenda
+          rest after under.priced under.asking turn.self_asks turn.taken turn.moved queued requeued are are';
+      queued_still = fields.queued_still shapes content old new laws replacing small great within within' asks
+          meets sees_is agenda rest after under.priced under.asking turn.self_asks turn.taken turn.moved queued requeued are are';
+      queues_only = fields.queues_only shapes content old new laws replacing small great within within' asks meets
+          sees_is agenda rest after under.priced under.asking turn.self_asks turn.taken turn.moved queued requeued are are';
     }
 
     pub turns : IsUnderway shapes content new asks T after
@@ -117,8 +128,10 @@ module _ {X S A B F P : Type 0} (shapes : Shapes S) (content : Content X S A F P
     turns = (
       record {
         city = city;
-        priced = fields.priced_after shapes content old new laws replacing small great within within' asks meets sees_is agenda rest after under.priced under.asking turn.self_asks turn.taken turn.moved queued requeued are are';
-        asking = fields.asks_after shapes content old new laws replacing small great within within' asks meets sees_is agenda rest after under.priced under.asking turn.self_asks turn.taken turn.moved queued requeued are are';
+        priced = fields.priced_after shapes content old new laws replacing small great within within' asks meets
+            sees_is agenda rest after under.priced under.asking turn.self_asks turn.taken turn.moved queued requeued are are';
+        asking = fields.asks_after shapes content old new laws replacing small great within within' asks meets
+            sees_is agenda rest after under.priced under.asking turn.self_asks turn.taken turn.moved queued requeued are are';
       },
       (requeued, are', is_turn),
     )
@@ -156,7 +169,8 @@ module _ {X S A B F P : Type 0} (shapes : Shapes S) (content : Content X S A F P
       let is = child_is shapes content new V under.city y.0 id i y.1 e y.2 turn.taken.here under_s in
       let ends = ends_with shapes content new V under.city y.0 y.1 y.2 in
       let here : renewed_child edit (rank y.1.node) (content.kind y.1.node) ≡ record { shape = rank y.1.node; kind = first_kind (content.kind y.1.node) } =
-      renew_same new.priority (rank y.1.node) (first_kind (content.kind y.1.node)) ends.0 (content.priority y.1.node) ends.1 (λ q. turn.priced y.0 y.1 y.2 is.0 (first_plain (content.kind y.1.node) q)) in
+      renew_same new.priority (rank y.1.node) (first_kind (content.kind y.1.node)) ends.0
+      (content.priority y.1.node) ends.1 (λ q. turn.priced y.0 y.1 y.2 is.0 (first_plain (content.kind y.1.node) q)) in
       subst (λ j. renewed_child edit c j ≡ record { shape = c; kind = first_kind j }) y.4
       (subst (λ (l : Ranked S). renewed_child edit l (content.kind y.1.node) ≡ record { shape = l; kind = first_kind (content.kind y.1.node) }) y.3 here)
 

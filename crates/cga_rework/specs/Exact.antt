@@ -29,7 +29,8 @@ IsBelow shapes parent i s = (shapes.lot s ≡ shapes.lot parent) × (shapes.path
 
 -- the nodes that the work of an edit leaves, and the shapes that were expanded in it, over the lists of
 -- the two derivations
-pub record IsExactWork {S A B F P : Type 0} (shapes : Shapes S) (old new : Rules S A B F P) (now : List (Node (Ranked S) A F P)) (worked : List (Ranked S)) (before after : List (Placed S F P)) : Type 0 where
+pub record IsExactWork {S A B F P : Type 0} (shapes : Shapes S) (old new : Rules S A B F P)
+    (now : List (Node (Ranked S) A F P)) (worked : List (Ranked S)) (before after : List (Placed S F P)) : Type 0 where
   -- the nodes are the members of the new derivation
   pub members : SameMembers (map unranked (members_of now)) after
   -- what was expanded is what is touched, each once
@@ -44,7 +45,8 @@ pub record IsExactWork {S A B F P : Type 0} (shapes : Shapes S) (old new : Rules
       → length worked ≡ length list
 
 -- the same with the record of change: the instances that went and came
-pub record IsExactRework {S A B F P : Type 0} (shapes : Shapes S) (old new : Rules S A B F P) (now : List (Node (Ranked S) A F P)) (worked : List (Ranked S)) (gone come : List (Drawn (Ranked S) P)) (before after : List (Placed S F P)) : Type 0 where
+pub record IsExactRework {S A B F P : Type 0} (shapes : Shapes S) (old new : Rules S A B F P)
+    (now : List (Node (Ranked S) A F P)) (worked : List (Ranked S)) (gone come : List (Drawn (Ranked S) P)) (before after : List (Placed S F P)) : Type 0 where
   pub work : IsExactWork shapes old new now worked before after
   -- there are as many nodes as members
   pub size : length now ≡ length after

@@ -81,7 +81,8 @@ module _ {X S A B F P : Type 0} (shapes : Shapes S) (content : Content X S A F P
     pub again : AreAgain content V e news
 
   -- the turn of the node e under id, whose children are replaced
-  pub record IsNodeTurn (fits : X → X → Bool) (asks : S → Bool) (meets : S → S → Bool) (V T : View X) (small id : ℕ) (news : List X) (e now : Seen X) (gone : ℕ → Bool) (agenda rest after : ℕ → Bool) (expanded : Bool) : Type 0 where
+  pub record IsNodeTurn (fits : X → X → Bool) (asks : S → Bool) (meets : S → S → Bool) (V T : View X)
+      (small id : ℕ) (news : List X) (e now : Seen X) (gone : ℕ → Bool) (agenda rest after : ℕ → Bool) (expanded : Bool) : Type 0 where
     pub taken : IsTaken shapes content V id e agenda rest
     pub replaced : IsReplaced fits V T id news e now gone
     pub tree : IsTree T

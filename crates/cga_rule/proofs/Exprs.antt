@@ -37,7 +37,9 @@ abbrev Found : ((A B C D E F : Type 0) → Type 0) → Type 0
 Found F = F (Sure (same member-Primary)) (Sure (same member-Added)) (Sure (same member-Expr)) (Sure (same member-Factor)) (Sure (same member-Scaled)) (Sure (same member-Term))
 
 abbrev primary_parts : Found Primary-F → Parts Primary-F
-primary_parts = map-Primary (Sure (same member-Primary)) (Sure (same member-Added)) (Sure (same member-Expr)) (Sure (same member-Factor)) (Sure (same member-Scaled)) (Sure (same member-Term)) Primary Added Expr Factor Scaled Term (λ e. e.0) (λ e. e.0) (λ e. e.0) (λ e. e.0) (λ e. e.0) (λ e. e.0)
+primary_parts = map-Primary (Sure (same member-Primary)) (Sure (same member-Added)) (Sure (same member-Expr))
+    (Sure (same member-Factor)) (Sure (same member-Scaled)) (Sure (same member-Term)) Primary Added Expr Factor
+    Scaled Term (λ e. e.0) (λ e. e.0) (λ e. e.0) (λ e. e.0) (λ e. e.0) (λ e. e.0)
 
 abbrev primary_passes : Parts Primary-F → Parts Primary-F → Bool
 primary_passes a b = by false false enum.parts (
@@ -89,7 +91,9 @@ primary_step x y is =
     (layer_sound (same member-Primary) roll-Primary out-Primary primary_passes roll-out-Primary out-roll-Primary primary_is (primary_parts y) (primary_sound y))
 
 abbrev added_parts : Found Added-F → Parts Added-F
-added_parts = map-Added (Sure (same member-Primary)) (Sure (same member-Added)) (Sure (same member-Expr)) (Sure (same member-Factor)) (Sure (same member-Scaled)) (Sure (same member-Term)) Primary Added Expr Factor Scaled Term (λ e. e.0) (λ e. e.0) (λ e. e.0) (λ e. e.0) (λ e. e.0) (λ e. e.0)
+added_parts = map-Added (Sure (same member-Primary)) (Sure (same member-Added)) (Sure (same member-Expr))
+    (Sure (same member-Factor)) (Sure (same member-Scaled)) (Sure (same member-Term)) Primary Added Expr Factor
+    Scaled Term (λ e. e.0) (λ e. e.0) (λ e. e.0) (λ e. e.0) (λ e. e.0) (λ e. e.0)
 
 abbrev added_passes : Parts Added-F → Parts Added-F → Bool
 added_passes a b = beq a.minus b.minus && same member-Term a.term b.term
@@ -109,7 +113,9 @@ added_step x y is =
     (layer_sound (same member-Added) roll-Added out-Added added_passes roll-out-Added out-roll-Added added_is (added_parts y) (added_sound y))
 
 abbrev expr_parts : Found Expr-F → Parts Expr-F
-expr_parts = map-Expr (Sure (same member-Primary)) (Sure (same member-Added)) (Sure (same member-Expr)) (Sure (same member-Factor)) (Sure (same member-Scaled)) (Sure (same member-Term)) Primary Added Expr Factor Scaled Term (λ e. e.0) (λ e. e.0) (λ e. e.0) (λ e. e.0) (λ e. e.0) (λ e. e.0)
+expr_parts = map-Expr (Sure (same member-Primary)) (Sure (same member-Added)) (Sure (same member-Expr))
+    (Sure (same member-Factor)) (Sure (same member-Scaled)) (Sure (same member-Term)) Primary Added Expr Factor
+    Scaled Term (λ e. e.0) (λ e. e.0) (λ e. e.0) (λ e. e.0) (λ e. e.0) (λ e. e.0)
 
 abbrev expr_passes : Parts Expr-F → Parts Expr-F → Bool
 expr_passes a b = same member-Term a.first b.first && pointwise (same member-Added) a.rest b.rest
@@ -129,7 +135,9 @@ expr_step x y is =
     (layer_sound (same member-Expr) roll-Expr out-Expr expr_passes roll-out-Expr out-roll-Expr expr_is (expr_parts y) (expr_sound y))
 
 abbrev factor_parts : Found Factor-F → Parts Factor-F
-factor_parts = map-Factor (Sure (same member-Primary)) (Sure (same member-Added)) (Sure (same member-Expr)) (Sure (same member-Factor)) (Sure (same member-Scaled)) (Sure (same member-Term)) Primary Added Expr Factor Scaled Term (λ e. e.0) (λ e. e.0) (λ e. e.0) (λ e. e.0) (λ e. e.0) (λ e. e.0)
+factor_parts = map-Factor (Sure (same member-Primary)) (Sure (same member-Added)) (Sure (same member-Expr))
+    (Sure (same member-Factor)) (Sure (same member-Scaled)) (Sure (same member-Term)) Primary Added Expr Factor
+    Scaled Term (λ e. e.0) (λ e. e.0) (λ e. e.0) (λ e. e.0) (λ e. e.0) (λ e. e.0)
 
 abbrev factor_passes : Parts Factor-F → Parts Factor-F → Bool
 factor_passes a b = beq a.minus b.minus && same member-Primary a.primary b.primary
@@ -150,7 +158,9 @@ factor_step x y is =
     (layer_sound (same member-Factor) roll-Factor out-Factor factor_passes roll-out-Factor out-roll-Factor factor_is (factor_parts y) (factor_sound y))
 
 abbrev scaled_parts : Found Scaled-F → Parts Scaled-F
-scaled_parts = map-Scaled (Sure (same member-Primary)) (Sure (same member-Added)) (Sure (same member-Expr)) (Sure (same member-Factor)) (Sure (same member-Scaled)) (Sure (same member-Term)) Primary Added Expr Factor Scaled Term (λ e. e.0) (λ e. e.0) (λ e. e.0) (λ e. e.0) (λ e. e.0) (λ e. e.0)
+scaled_parts = map-Scaled (Sure (same member-Primary)) (Sure (same member-Added)) (Sure (same member-Expr))
+    (Sure (same member-Factor)) (Sure (same member-Scaled)) (Sure (same member-Term)) Primary Added Expr Factor
+    Scaled Term (λ e. e.0) (λ e. e.0) (λ e. e.0) (λ e. e.0) (λ e. e.0) (λ e. e.0)
 
 abbrev scaled_passes : Parts Scaled-F → Parts Scaled-F → Bool
 scaled_passes a b = beq a.divide b.divide && same member-Factor a.factor b.factor
@@ -171,7 +181,9 @@ scaled_step x y is =
     (layer_sound (same member-Scaled) roll-Scaled out-Scaled scaled_passes roll-out-Scaled out-roll-Scaled scaled_is (scaled_parts y) (scaled_sound y))
 
 abbrev term_parts : Found Term-F → Parts Term-F
-term_parts = map-Term (Sure (same member-Primary)) (Sure (same member-Added)) (Sure (same member-Expr)) (Sure (same member-Factor)) (Sure (same member-Scaled)) (Sure (same member-Term)) Primary Added Expr Factor Scaled Term (λ e. e.0) (λ e. e.0) (λ e. e.0) (λ e. e.0) (λ e. e.0) (λ e. e.0)
+term_parts = map-Term (Sure (same member-Primary)) (Sure (same member-Added)) (Sure (same member-Expr))
+    (Sure (same member-Factor)) (Sure (same member-Scaled)) (Sure (same member-Term)) Primary Added Expr Factor
+    Scaled Term (λ e. e.0) (λ e. e.0) (λ e. e.0) (λ e. e.0) (λ e. e.0) (λ e. e.0)
 
 abbrev term_passes : Parts Term-F → Parts Term-F → Bool
 term_passes a b = same member-Factor a.first b.first && pointwise (same member-Scaled) a.rest b.rest

@@ -43,7 +43,8 @@ cut_after (x ∷ xs) ys all =
 -- a line that an LF ends
 pub cut_line : (r ys : List ℕ) → IsOneLine r
     → cut (r ++ 10 ∷ ys) ≡ record { lines = r ∷ (cut ys).lines; rest = (cut ys).rest }
-cut_line r ys all = cut_after r (10 ∷ ys) all ∙ ap (λ (c : Cut). after_part c.lines c.rest r) (at_lf 10 ys refl) ∙ ap (λ (l : List ℕ). record { lines = l ∷ (cut ys).lines; rest = (cut ys).rest }) (append-nil r)
+cut_line r ys all = cut_after r (10 ∷ ys) all ∙ ap (λ (c : Cut). after_part c.lines c.rest r) (at_lf 10 ys refl)
+    ∙ ap (λ (l : List ℕ). record { lines = l ∷ (cut ys).lines; rest = (cut ys).rest }) (append-nil r)
 
 pub cut_part : (r : List ℕ) → IsOneLine r → cut r ≡ record { lines = []; rest = r }
 unfolding cut
@@ -70,7 +71,8 @@ pub cut_append : (xs ys : List ℕ) → cut (xs ++ ys) ≡ goes_on (cut xs) ys
 cut_append [] ys = start_goes_on ys
 cut_append (x ∷ xs) ys = elim (lf_or_other x) [
   | inl e ↦ at_lf x (xs ++ ys) e ∙ ap (λ (c : Cut). record { lines = [] ∷ c.lines; rest = c.rest }) (cut_append xs ys) ∙ sym (ap (λ (c : Cut). goes_on c ys) (at_lf x xs e))
-  | inr other ↦ at_other x (xs ++ ys) other ∙ ap (λ (c : Cut). before_first x c.lines c.rest) (cut_append xs ys) ∙ before_goes_on x (cut xs).lines (cut xs).rest ys other ∙ sym (ap (λ (c : Cut). goes_on c ys) (at_other x xs other))
+  | inr other ↦ at_other x (xs ++ ys) other ∙ ap (λ (c : Cut). before_first x c.lines c.rest) (cut_append xs ys)
+      ∙ before_goes_on x (cut xs).lines (cut xs).rest ys other ∙ sym (ap (λ (c : Cut). goes_on c ys) (at_other x xs other))
 ]
 
 -- the rest is one line
@@ -111,7 +113,9 @@ kept_again n r s = elim (le_or_ge n (length r)) [
 
 -- a line of so many bytes is long, whatever ends it
 without_cr_cases : (z : List ℕ) → (without_cr z ≡ z) ⊎ (without_cr z ≡ take (length z - 1) z)
-without_cr_cases z = elim (bytes_eq (drop (length z - 1) z) (13 ∷ [])) as (λ b. (((if b then take (length z - 1) z else z) ≡ z) ⊎ ((if b then take (length z - 1) z else z) ≡ take (length z - 1) z))) [ true ↦ inr refl | false ↦ inl refl ]
+without_cr_cases z = elim (bytes_eq (drop (length z - 1) z) (13 ∷ [])) as (λ b.
+    (((if b then take (length z - 1) z else z) ≡ z)
+    ⊎ ((if b then take (length z - 1) z else z) ≡ take (length z - 1) z))) [ true ↦ inr refl | false ↦ inl refl ]
 
 clipped_long : (z : List ℕ) → 4096 < length z → clipped z ≡ record { bytes = take 4096 z; long = true }
 clipped_long z h = let e : nat_lt 4096 (length z) ≡ true = grind (arith, nat_tests) in ap (λ (b : Bool). record { bytes = take 4096 z; long = b }) e
@@ -125,14 +129,16 @@ line_long z h = elim (without_cr_cases z) [
 
 pub line_kept : (x : List ℕ) → clipped (without_cr (kept_of x)) ≡ clipped (without_cr x)
 line_kept x = elim (le_or_ge 4098 (length x)) [
-  | inl le ↦ let n = length-take-le 4098 x le in line_long (take 4098 x) (omega (arith, n)) ∙ ap (λ (t : List ℕ). record { bytes = t; long = true }) (take_twice 4096 4098 x (omega arith)) ∙ sym (line_long x le)
+  | inl le ↦ let n = length-take-le 4098 x le in line_long (take 4098 x) (omega (arith, n))
+      ∙ ap (λ (t : List ℕ). record { bytes = t; long = true }) (take_twice 4096 4098 x (omega arith)) ∙ sym (line_long x le)
   | inr ge ↦ ap (λ (t : List ℕ). clipped (without_cr t)) (take_all 4098 x ge)
 ]
 
 -- the line read from what is kept of some bytes is the line read from all of them
 pub last_kept : (x : List ℕ) → clipped (kept_of x) ≡ clipped x
 last_kept x = elim (le_or_ge 4098 (length x)) [
-  | inl le ↦ let n = length-take-le 4098 x le in clipped_long (take 4098 x) (omega (arith, n)) ∙ ap (λ (t : List ℕ). record { bytes = t; long = true }) (take_twice 4096 4098 x (omega arith)) ∙ sym (clipped_long x (omega arith))
+  | inl le ↦ let n = length-take-le 4098 x le in clipped_long (take 4098 x) (omega (arith, n))
+      ∙ ap (λ (t : List ℕ). record { bytes = t; long = true }) (take_twice 4096 4098 x (omega arith)) ∙ sym (clipped_long x (omega arith))
   | inr ge ↦ ap clipped (take_all 4098 x ge)
 ]
 
@@ -144,17 +150,23 @@ after_part_kept : (ended : List (List ℕ)) (rest r : List ℕ)
     → (as_lines (after_part ended rest (kept_of r)).lines ≡ as_lines (after_part ended rest r).lines)
     × (kept_of (after_part ended rest (kept_of r)).rest ≡ kept_of (after_part ended rest r).rest)
 after_part_kept [] rest r = (refl, kept_again 4098 r rest)
-after_part_kept (line ∷ lines) rest r = (ap (λ (l : Line). l ∷ as_lines lines) (sym (line_kept (kept_of r ++ line)) ∙ ap (λ (t : List ℕ). clipped (without_cr t)) (kept_again 4098 r line) ∙ line_kept (r ++ line)), refl)
+after_part_kept (line ∷ lines) rest r = (
+  ap (λ (l : Line). l ∷ as_lines lines) (sym (line_kept (kept_of r ++ line))
+      ∙ ap (λ (t : List ℕ). clipped (without_cr t)) (kept_again 4098 r line) ∙ line_kept (r ++ line)),
+  refl,
+)
 
 -- what is kept of a part without an LF has none
 pub kept_one : (r : List ℕ) → IsOneLine r → IsOneLine (kept_of r)
 kept_one r all = All-take (λ (b : ℕ). b ≢ 10) 4098 r all
 
 pub lines_kept : (r ys : List ℕ) → IsOneLine r → lines_of (kept_of r ++ ys) ≡ lines_of (r ++ ys)
-lines_kept r ys all = ap (λ (c : Cut). as_lines c.lines) (cut_after (kept_of r) ys (kept_one r all)) ∙ (after_part_kept (cut ys).lines (cut ys).rest r).0 ∙ ap (λ (c : Cut). as_lines c.lines) (sym (cut_after r ys all))
+lines_kept r ys all = ap (λ (c : Cut). as_lines c.lines) (cut_after (kept_of r) ys (kept_one r all))
+    ∙ (after_part_kept (cut ys).lines (cut ys).rest r).0 ∙ ap (λ (c : Cut). as_lines c.lines) (sym (cut_after r ys all))
 
 pub rest_kept : (r ys : List ℕ) → IsOneLine r → kept_of (cut (kept_of r ++ ys)).rest ≡ kept_of (cut (r ++ ys)).rest
-rest_kept r ys all = ap (λ (c : Cut). kept_of c.rest) (cut_after (kept_of r) ys (kept_one r all)) ∙ (after_part_kept (cut ys).lines (cut ys).rest r).1 ∙ ap (λ (c : Cut). kept_of c.rest) (sym (cut_after r ys all))
+rest_kept r ys all = ap (λ (c : Cut). kept_of c.rest) (cut_after (kept_of r) ys (kept_one r all))
+    ∙ (after_part_kept (cut ys).lines (cut ys).rest r).1 ∙ ap (λ (c : Cut). kept_of c.rest) (sym (cut_after r ys all))
 
 -- one more piece: the lines so far, then those that it ends
 pub lines_append : (read piece : List ℕ)

@@ -73,7 +73,8 @@ cut_front xs ys e = cc
 
 same_lines : (g : Grammar) → rules.ReadsBack g → rules.lines_text (said_of g) ≡ grammar_lines g
 same_lines g back =
-    let e : codes "rules\n" ++ (grammar_lines g ++ codes "end\n") ≡ codes "rules\n" ++ (rules.lines_text (said_of g) ++ codes "end\n") = ap (λ z. codes "rules\n" ++ z) (append_assoc _ _ (codes "end\n")) ∙ back.text in
+    let e : codes "rules\n" ++ (grammar_lines g ++ codes "end\n") ≡ codes "rules\n"
+    ++ (rules.lines_text (said_of g) ++ codes "end\n") = ap (λ z. codes "rules\n" ++ z) (append_assoc _ _ (codes "end\n")) ∙ back.text in
     sym (cut_end (grammar_lines g) (rules.lines_text (said_of g)) (codes "end\n") (cut_front _ _ e))
 
 whole_text : (s : Sources) → rules.ReadsBack s.grammar
@@ -82,7 +83,9 @@ whole_text : (s : Sources) → rules.ReadsBack s.grammar
 unfolding dump_text_of
 whole_text s back =
     let e : city_texts (map line.Block (said_of s.grammar) ++ map line.Lot s.lots) ≡ grammar_lines s.grammar ++ flat_map lot_line s.lots =
-    texts_join (map line.Block (said_of s.grammar)) (map line.Lot s.lots) ∙ ap (λ z. z ++ city_texts (map line.Lot s.lots)) (blocks_text (said_of s.grammar) ∙ same_lines s.grammar back) ∙ ap (λ z. grammar_lines s.grammar ++ z) (lots_text s.lots) in
+    texts_join (map line.Block (said_of s.grammar)) (map line.Lot s.lots)
+    ∙ ap (λ z. z ++ city_texts (map line.Lot s.lots)) (blocks_text (said_of s.grammar)
+    ∙ same_lines s.grammar back) ∙ ap (λ z. grammar_lines s.grammar ++ z) (lots_text s.lots) in
     ap (λ z. codes "version 2\ncity\n" ++ z)
     (sym (ap (λ z. (ended (order_text s.mode) ++ z) ++ codes "end\n") e
     ∙ append_assoc (ended (order_text s.mode)) (grammar_lines s.grammar ++ flat_map lot_line s.lots) (codes "end\n")

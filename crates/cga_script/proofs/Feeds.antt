@@ -17,7 +17,8 @@ split_lf : (bytes : List ℕ) (n : ℕ) → 0 < n → n ≤ length bytes → get
     → bytes ≡ take (n - 1) bytes ++ 10 ∷ drop n bytes
 split_lf bytes n some most lf =
     let e : suc (n - 1) ≡ n = omega arith in
-    sym (take-append-drop (n - 1) bytes) ∙ ap (λ (d : List ℕ). take (n - 1) bytes ++ d) (drop-cons bytes (n - 1) 0 (omega arith) ∙ ap₂ (λ (b : ℕ) (d : List ℕ). b ∷ d) lf (ap (λ (k : ℕ). drop k bytes) e))
+    sym (take-append-drop (n - 1) bytes) ∙ ap (λ (d : List ℕ). take (n - 1) bytes ++ d)
+    (drop-cons bytes (n - 1) 0 (omega arith) ∙ ap₂ (λ (b : ℕ) (d : List ℕ). b ∷ d) lf (ap (λ (k : ℕ). drop k bytes) e))
 
 -- a piece that ends a line
 pub record TakesLine (now more : List ℕ) (line : Line) : Type 0 where
@@ -31,7 +32,8 @@ pub takes_line : (kept rest more : List ℕ) (n : ℕ) (p : Pending) → IsOneLi
     → TakesLine (kept ++ rest) more (ready_line p)
 takes_line kept rest more n p one some most lf part others is =
     let line : List ℕ = kept ++ take (n - 1) rest in
-    let split : kept ++ rest ≡ line ++ 10 ∷ more = ap (λ (r : List ℕ). kept ++ r) (split_lf rest n some most lf) ∙ sym (append_assoc kept (take (n - 1) rest) (10 ∷ drop n rest)) ∙ ap (λ (d : List ℕ). line ++ 10 ∷ d) (sym others) in
+    let split : kept ++ rest ≡ line ++ 10 ∷ more = ap (λ (r : List ℕ). kept ++ r) (split_lf rest n some most lf)
+    ∙ sym (append_assoc kept (take (n - 1) rest) (10 ∷ drop n rest)) ∙ ap (λ (d : List ℕ). line ++ 10 ∷ d) (sym others) in
     let cut_is = ap cut split ∙ cut_line line more (All-append IsByte kept (take (n - 1) rest) one part) in
     record {
       lines = ap (λ (c : Cut). map (λ (l : List ℕ). clipped (without_cr l)) c.lines) cut_is ∙ ap (λ (l : Line). l ∷ lines_of more) (sym (line_kept line) ∙ sym (ap ready_line is));
@@ -94,7 +96,11 @@ goes_on rest piece old new part one is =
     let kept : old.kept ≡ kept_of rest = ap (λ (p : Pending). p.kept) part.kept in
     let both = one_more rest piece part.one one in (
       no_lines (rest ++ piece) both,
-      record { one = both; kept = is ∙ ap (λ (k : List ℕ). record { kept = kept_of (k ++ piece); ending = Open }) kept ∙ ap (λ (k : List ℕ). record { kept = k; ending = Open }) (kept_again 4098 rest piece) },
+      record {
+        one = both;
+        kept = is ∙ ap (λ (k : List ℕ). record { kept = kept_of (k ++ piece); ending = Open })
+            kept ∙ ap (λ (k : List ℕ). record { kept = k; ending = Open }) (kept_again 4098 rest piece);
+      },
     )
 
 -- of a part with a byte something is kept

@@ -65,7 +65,8 @@ behind_token line at len some fits =
     lex_skip (len - 1) (at + 1 + 1) (drop (at + 1) line) (omega (arith, length-drop (at + 1) line))
     ∙ ap (λ z. lex 0 (at + 1 + 1 + (len - 1)) z) (drop-drop (len - 1) (at + 1) line ∙ ap (λ n. drop n line) rest) ∙ ap (λ n. lex 0 n (drop (at + len) line)) place
 
-module _ (line : List ℕ) (at : ℕ) (found r : Bool) (read : r ≡ ends_after found (lex 0 (at + 1) (drop at line))) (h : at < length line) (k : TokenKind) (len : ℕ) (e : front (drop at line) ≡ Found k len) where
+module _ (line : List ℕ) (at : ℕ) (found r : Bool) (read : r ≡ ends_after found (lex 0 (at + 1) (drop at line)))
+    (h : at < length line) (k : TokenKind) (len : ℕ) (e : front (drop at line) ≡ Found k len) where
   abbrev here : Token
   here = record { kind = k; from = at + 1; to = at + 1 + len }
 

@@ -88,7 +88,8 @@ parts l x d w =
 
 abbrev by_tests : Lot → Bool → Bool → Bool → Pieces
 by_tests l n f m =
-    word (codes "lot") ∷ (if n then never else word l.name) ∷ (if f then token Usual (number l.seed) else never) ∷ valued l.x ∷ valued l.z ∷ valued l.width ∷ valued l.depth ∷ (if m then never else word l.symbol) ∷ []
+    word (codes "lot") ∷ (if n then never else word l.name) ∷ (if f then token Usual (number l.seed) else never)
+    ∷ valued l.x ∷ valued l.z ∷ valued l.width ∷ valued l.depth ∷ (if m then never else word l.symbol) ∷ []
 
 joined : {M : Type 0} (f : M → Lexeme) (xs ys : List M) → map f (xs ++ ys) ≡ map f xs ++ map f ys
 joined f xs ys = map-append f xs ys

@@ -88,7 +88,9 @@ still_apart : (l : Lot) (acc ls : List Lot) → All (Apart acc) ls → All (λ (
 still_apart l acc [] h k = All-nil (Apart (acc ++ l ∷ []))
 still_apart l acc (x ∷ ls) h k =
     All-cons (Apart (acc ++ l ∷ [])) x ls
-    (All-append (λ (k : Lot). is k.name x.name ≡ false) acc (l ∷ []) (All-head (Apart acc) x ls h) (All-cons (λ (k : Lot). is k.name x.name ≡ false) l [] (All-head (λ (k : Lot). is l.name k.name ≡ false) x ls k) (All-nil (λ (k : Lot). is k.name x.name ≡ false))))
+    (All-append (λ (k : Lot). is k.name x.name ≡ false) acc (l ∷ []) (All-head (Apart acc) x ls h)
+    (All-cons (λ (k : Lot). is k.name x.name ≡ false) l [] (All-head (λ (k : Lot). is l.name k.name ≡ false) x
+    ls k) (All-nil (λ (k : Lot). is k.name x.name ≡ false))))
     (still_apart l acc ls (All-tail (Apart acc) x ls h) (All-tail (λ (k : Lot). is l.name k.name ≡ false) x ls k))
 
 lots_same : (acc ls : List Lot) → Differ ls → All (Apart acc) ls → lots_after acc (map lot_said ls) ≡ acc ++ ls
@@ -126,4 +128,5 @@ mode_is m all ls = mode_rest m all ls
 
 pub three_same : (g h : Grammar) (ls ks : List Lot) (m n : Mode) → g ≡ h → ls ≡ ks → m ≡ n
     → ◌≡◌ {A = Sources} (record { grammar = g; lots = ls; mode = m }) (record { grammar = h; lots = ks; mode = n })
-three_same g h ls ks m n a b c = ap (λ z. record { grammar = z; lots = ls; mode = m }) a ∙ ap (λ z. record { grammar = h; lots = z; mode = m }) b ∙ ap (λ z. record { grammar = h; lots = ks; mode = z }) c
+three_same g h ls ks m n a b c = ap (λ z. record { grammar = z; lots = ls; mode = m }) a
+    ∙ ap (λ z. record { grammar = h; lots = z; mode = m }) b ∙ ap (λ z. record { grammar = h; lots = ks; mode = z }) c

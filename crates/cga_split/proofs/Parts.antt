@@ -52,7 +52,8 @@ parts_are part place exact rest total at (s ∷ ss) ps l h =
     let next' : plus at (length_of rest total s) ≡ c.0 = ap (plus at) len ∙ next in
     let rec : d.0 ≡ parts_of place (c.0 ∷ cuts_after rest total c.0 ss) = parts_are part place exact rest total c.0 ss d.0 l.1 d.1 in
     let head : b.0 ≡ place at (minus (plus at (length_of rest total s)) at) = exact at a.0 b.0 b.1 ∙ ap (place at) (sym len ∙ sym (minus-plus_left at (length_of rest total s) l.0)) in
-    let tail : d.0 ≡ parts_of place (plus at (length_of rest total s) ∷ cuts_after rest total (plus at (length_of rest total s)) ss) = rec ∙ ap (λ z. parts_of place (z ∷ cuts_after rest total z ss)) (sym next') in
+    let tail : d.0 ≡ parts_of place (plus at (length_of rest total s)
+    ∷ cuts_after rest total (plus at (length_of rest total s)) ss) = rec ∙ ap (λ z. parts_of place (z ∷ cuts_after rest total z ss)) (sym next') in
     joined b.0 d.0 ps _ _ d.2 head tail
 
 -- sums that stay in range are the sums

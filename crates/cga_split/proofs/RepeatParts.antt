@@ -32,8 +32,11 @@ multiple_ratio part np dp i r = like (times part (whole i)) _ _ (np * i) dp (tim
 multiples_rise : (part : Rat) (np dp i n : ℕ) → IsRatio part np dp
     → Rises (times part (whole i)) (multiples part (i + 1) n)
 multiples_rise part np dp i zero r = tt
-multiples_rise part np dp i (suc n) r =
-    (le_ratio (times part (whole i)) (times part (whole (i + 1))) (np * i) dp (np * (i + 1)) dp (multiple_ratio part np dp i r) (multiple_ratio part np dp (i + 1) r) (omega arith), multiples_rise part np dp (i + 1) n r)
+multiples_rise part np dp i (suc n) r = (
+  le_ratio (times part (whole i)) (times part (whole (i + 1))) (np * i) dp (np * (i + 1)) dp
+      (multiple_ratio part np dp i r) (multiple_ratio part np dp (i + 1) r) (omega arith),
+  multiples_rise part np dp (i + 1) n r,
+)
 
 last_multiple : (part : Rat) (i n : ℕ)
     → last_of (times part (whole i)) (multiples part (i + 1) n) ≡ times part (whole (i + n))

@@ -47,7 +47,8 @@ ends rest total at a r k q [] p s e = e
 ends rest total at a r k q (Absolute x ∷ sizes) p s e =
     let n = s.0 in let d = s.1 in
     let w = plus_ratio at x _ _ _ _ e.at_is s.2 in
-    let v = like _ _ _ ((e.na * s.1 + s.0 * e.da) * k * e.dr + q * e.nr * (e.da * s.1)) (e.da * s.1 * k * e.dr) w (absolute_step e.na k e.dr q e.nr e.da s.0 s.1) (mul-pos (mul-pos (mul-pos e.a_is.positive s.2.positive) p) e.r_is.positive) in
+    let v = like _ _ _ ((e.na * s.1 + s.0 * e.da) * k * e.dr + q * e.nr * (e.da * s.1)) (e.da * s.1 * k * e.dr) w
+    (absolute_step e.na k e.dr q e.nr e.da s.0 s.1) (mul-pos (mul-pos (mul-pos e.a_is.positive s.2.positive) p) e.r_is.positive) in
     ends rest total (plus at x) (plus a x) r k q sizes p s.3 (record {
       na = e.na * s.1 + s.0 * e.da;
       da = e.da * s.1;
@@ -59,7 +60,8 @@ ends rest total at a r k q (Absolute x ∷ sizes) p s e =
     })
 ends rest total at a r k q (Relative f ∷ sizes) p s e =
     let w = plus_ratio at (length_of rest total (Relative f)) _ _ _ _ e.at_is s.3 in
-    let v = like _ _ _ (e.na * k * (e.dr * s.1) + q * (e.nr * s.1 + s.0 * e.dr) * e.da) (e.da * k * (e.dr * s.1)) w (relative_step e.na k e.dr q e.nr e.da s.0 s.1) (mul-pos (mul-pos e.a_is.positive p) (mul-pos e.r_is.positive s.2.positive)) in
+    let v = like _ _ _ (e.na * k * (e.dr * s.1) + q * (e.nr * s.1 + s.0 * e.dr) * e.da) (e.da * k * (e.dr * s.1)) w
+    (relative_step e.na k e.dr q e.nr e.da s.0 s.1) (mul-pos (mul-pos e.a_is.positive p) (mul-pos e.r_is.positive s.2.positive)) in
     ends rest total (plus at (length_of rest total (Relative f))) a (plus r f) k q sizes p s.4 (record {
       na = e.na;
       da = e.da;
@@ -134,5 +136,8 @@ pub rises : (rest total at : Rat) (n d k q : ℕ) (sizes : List PartSize) → Is
 rises rest total at n d k q [] r s = tt
 rises rest total at n d k q (Absolute x ∷ sizes) r s =
     (plus_rises at x n d s.0 s.1 r s.2, rises rest total (plus at x) _ _ k q sizes (plus_ratio at x _ _ _ _ r s.2) s.3)
-rises rest total at n d k q (Relative f ∷ sizes) r s =
-    (plus_rises at (length_of rest total (Relative f)) n d _ _ r s.3, rises rest total (plus at (length_of rest total (Relative f))) _ _ k q sizes (plus_ratio at (length_of rest total (Relative f)) _ _ _ _ r s.3) s.4)
+rises rest total at n d k q (Relative f ∷ sizes) r s = (
+  plus_rises at (length_of rest total (Relative f)) n d _ _ r s.3,
+  rises rest total
+      (plus at (length_of rest total (Relative f))) _ _ k q sizes (plus_ratio at (length_of rest total (Relative f)) _ _ _ _ r s.3) s.4,
+)

@@ -60,7 +60,8 @@ module _ (a b : Mark) (rest : List ℕ) (t : IsToken b.lexeme) where
   one_of false false false false w f g i j l h = l h
 
   joined : closes_up a b ≡ true → Ends a.lexeme over
-  joined h = one_of (is_left a.lexeme) (is_right b.lexeme) (is_word a.lexeme && is_left b.lexeme) (is_prefix a && begins_primary b.lexeme) (is_label b) (left_ends a.lexeme over) by_right by_word by_prefix by_label h
+  joined h = one_of (is_left a.lexeme) (is_right b.lexeme) (is_word a.lexeme && is_left b.lexeme)
+      (is_prefix a && begins_primary b.lexeme) (is_label b) (left_ends a.lexeme over) by_right by_word by_prefix by_label h
 
   spaced : (c : Bool) → closes_up a b ≡ c → Ends a.lexeme ((if c then [] else 32 ∷ []) ++ over)
   spaced true h = joined h

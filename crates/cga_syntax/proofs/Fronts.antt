@@ -129,7 +129,9 @@ module _ (text rest : List ℕ) (a : Rat) (h : decimal_of text ≡ Ok a) (d : be
 
   count_is : nat_lt 18 (digit_count (text ++ rest)) ≡ false
   count_is =
-      let c : digit_count (text ++ rest) ≡ length parts.whole + length parts.places = ap (λ n. n + decimals (drop (run is_ascii_digit (text ++ rest)) (text ++ rest))) digits_are ∙ ap (λ n. length parts.whole + n) decimals_are in
+      let c : digit_count (text ++ rest) ≡ length parts.whole + length
+      parts.places = ap (λ n. n + decimals (drop (run is_ascii_digit (text ++ rest)) (text ++ rest)))
+      digits_are ∙ ap (λ n. length parts.whole + n) decimals_are in
       let f = parts.few in grind (arith, nat_tests)
 
   pub number_over : number (text ++ rest) ≡ followed a (length text) rest
@@ -252,7 +254,8 @@ quoted_over name rest n =
     let g = n.some in
     let s : nat_lt 32 (length name) ≡ false = grind (arith, nat_tests) in
     let u : nat_lt 0 (length name) ≡ true = grind (arith, nat_tests) in
-    ap (λ t. if t then BadByte 1 else enclosed (take (run continues_name (name ++ 34 ∷ rest)) (name ++ 34 ∷ rest)) (drop (run continues_name (name ++ 34 ∷ rest)) (name ++ 34 ∷ rest))) (begins_none name (34 ∷ rest) n)
+    ap (λ t. if t then BadByte 1 else enclosed (take (run continues_name (name ++ 34 ∷ rest)) (name ++ 34 ∷ rest))
+    (drop (run continues_name (name ++ 34 ∷ rest)) (name ++ 34 ∷ rest))) (begins_none name (34 ∷ rest) n)
     ∙ ap (λ k. enclosed (take k (name ++ 34 ∷ rest)) (drop k (name ++ 34 ∷ rest))) r
     ∙ ap (λ z. enclosed z (drop (length name) (name ++ 34 ∷ rest))) (take-append_seam name (34 ∷ rest))
     ∙ ap (enclosed name) (drop_over name (34 ∷ rest))

@@ -35,7 +35,8 @@ pub rand_out : (j : ℕ) (low high : Expr) (steps : ℕ)
     (expr_pieces low ++ (sign s.Comma ∷
     (expr_pieces high ++ (sign s.Comma ∷ whole 1 1000000 steps ∷ sign s.RightRound ∷ []))))
 unfolding primary_pieces expr_pieces
-rand_out j low high steps = ap primary_pieces (sym (rolls-Rand j low high steps)) ∙ fold-roll-Primary Pieces Pieces Pieces Pieces Pieces Pieces primary_step added_step expr_step factor_step scaled_step term_step (layer.Rand j low high steps)
+rand_out j low high steps = ap primary_pieces (sym (rolls-Rand j low high steps)) ∙ fold-roll-Primary Pieces Pieces
+    Pieces Pieces Pieces Pieces primary_step added_step expr_step factor_step scaled_step term_step (layer.Rand j low high steps)
 
 -- the tokens of a rand, one part after the other
 module _ (p : Primary) (j : ℕ) (low high : Expr) (steps : ℕ) (is : p ≡ Rand j low high steps) where

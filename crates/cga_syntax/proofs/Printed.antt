@@ -128,7 +128,8 @@ at_most_few p w n xs h = ap (λ b. if b then after_each p (map w xs) else never 
 
 pub at_most_many : {A : Type 0} (p : Piece) (w : A → Pieces) (n : ℕ) (ms : List Mark) (xs : List A) → n < length xs
     → printed_on ms (at_most n p (map w xs)) ≡ ms
-at_most_many p w n ms xs h = ap (λ b. printed_on ms (if b then after_each p (map w xs) else never ∷ [])) (let e : nat_le (length (map w xs)) n ≡ false = grind (arith, nat_tests, length-map xs w) in e) ∙ nil_right ms
+at_most_many p w n ms xs h = ap (λ b. printed_on ms (if b then after_each p (map w xs) else never ∷ []))
+    (let e : nat_le (length (map w xs)) n ≡ false = grind (arith, nat_tests, length-map xs w) in e) ∙ nil_right ms
 
 -- ---- bodies
 

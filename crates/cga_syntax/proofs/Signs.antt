@@ -156,7 +156,12 @@ token_front (lexeme.Relative value) rest t e =
       there = ap front (append_assoc text (114 ∷ []) rest) ∙ relative_front text rest value (literal_reads value t) e ∙ ap (Token (kind.Relative value)) (sym (length-append text (114 ∷ [])));
       is = refl;
     }
-token_front (lexeme.Keyword word) rest t e = record { kind = kind.Word (keyword_bytes word); there = word_front (keyword_bytes word) rest (keyword_is_name word) e; is = ap (word_lexeme (keyword_bytes word)) (keyword_is_known word) }
+token_front (lexeme.Keyword word) rest t e = record {
+  kind = kind.Word (keyword_bytes word);
+  there = word_front
+      (keyword_bytes word) rest (keyword_is_name word) e;
+  is = ap (word_lexeme (keyword_bytes word)) (keyword_is_known word);
+}
 token_front (lexeme.Name name) rest t e = record { kind = kind.Word name; there = word_front name rest t.0 e; is = ap (word_lexeme name) (none_of (keyword_of name) t.1) }
 token_front (lexeme.Text name) rest t e =
     let len : length name + 2 ≡ suc (length (name ++ 34 ∷ [])) = omega (arith, length-append name (34 ∷ [])) in

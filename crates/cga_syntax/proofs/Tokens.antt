@@ -132,7 +132,8 @@ sign_is b (c ∷ cs) k n h = long_is (pair b c) (single b) k n h
 
 front_by : (b : ℕ) (bs : List ℕ) (k : TokenKind) (n : ℕ) (comment blank quote digit name : Bool) → begins_name b ≡ name
     →
-    ◌≡◌ {A = Front} (if comment then End else if blank then Blank else if quote then quoted bs else if digit then number (b ∷ bs) else if name then word (b ∷ bs) else sign_of b bs) (Token k n) → IsRead k
+    ◌≡◌ {A = Front} (if comment then End else if blank then Blank else if quote then quoted
+    bs else if digit then number (b ∷ bs) else if name then word (b ∷ bs) else sign_of b bs) (Token k n) → IsRead k
 front_by b bs k n true blank quote digit name e h = absurd (cc)
 front_by b bs k n false true quote digit name e h = absurd (cc)
 front_by b bs k n false false true digit name e h = quoted_is bs k n h

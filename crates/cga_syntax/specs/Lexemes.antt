@@ -43,7 +43,8 @@ abbrev pub one_byte_keyword : List ℕ → Option Keyword
 one_byte_keyword word = if is word (codes "T") then Some keyword.T else (if is word (codes "S") then Some keyword.S else (if is word (codes "I") then Some keyword.I else None))
 
 abbrev pub two_byte_keyword : List ℕ → Option Keyword
-two_byte_keyword word = if is word (codes "Rx") then Some keyword.Rx else (if is word (codes "Ry") then Some keyword.Ry else (if is word (codes "Rz") then Some keyword.Rz else (if is word (codes "or") then Some keyword.Or else None)))
+two_byte_keyword word = if is word (codes "Rx") then Some keyword.Rx else (if is word (codes "Ry") then Some
+    keyword.Ry else (if is word (codes "Rz") then Some keyword.Rz else (if is word (codes "or") then Some keyword.Or else None)))
 
 abbrev pub three_byte_keyword : List ℕ → Option Keyword
 three_byte_keyword word = if is word (codes "NIL") then Some keyword.Nil else (if is word (codes "and") then Some keyword.And else (if is word (codes "not") then Some keyword.Not else None))

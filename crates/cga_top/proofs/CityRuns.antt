@@ -58,7 +58,8 @@ other_head run (line ∷ lines) head = ap (λ b. cond b (differs_at 2 (map step_
 
 -- ---- at a state
 
-module _ (s : State) (session : Session) (at : IsAt s session) (x : Sources) (same : x ≡ session.city.sources) (sound : AreSound x) (fits : derived session.city.budget x ≡ Some (members session.city.budget x)) where
+module _ (s : State) (session : Session) (at : IsAt s session) (x : Sources) (same : x ≡ session.city.sources)
+    (sound : AreSound x) (fits : derived session.city.budget x ≡ Some (members session.city.budget x)) where
   state_sources : x ≡ s.sources
   state_sources = same ∙ at.sources
 
@@ -66,7 +67,8 @@ module _ (s : State) (session : Session) (at : IsAt s session) (x : Sources) (sa
   state_sound = subst AreSound state_sources sound
 
   state_fits : derived (budget_of s.version) s.sources ≡ Some (members (budget_of s.version) s.sources)
-  state_fits = subst (λ (b : ℕ). derived b s.sources ≡ Some (members b s.sources)) at.budget (subst (λ (y : Sources). derived session.city.budget y ≡ Some (members session.city.budget y)) state_sources fits)
+  state_fits = subst (λ (b : ℕ). derived b s.sources ≡ Some (members b s.sources)) at.budget
+      (subst (λ (y : Sources). derived session.city.budget y ≡ Some (members session.city.budget y)) state_sources fits)
 
   pub state_run : (steps : List TraceStep) → IsRun session.city.sources steps → steps ≡ run_of s
   state_run steps run = whole_run s.sources (budget_of s.version) state_sound state_fits steps (subst (λ (y : Sources). IsRun y steps) at.sources run)

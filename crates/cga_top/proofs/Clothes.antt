@@ -57,7 +57,8 @@ done_did s old w r (Err TooManyDresses) reply n at g told = refuses_did s old w 
 pub clothed_did : (s : State) (old : Session) (w : WardrobeView)
     (make : WardrobeView → Result WardrobeView WardrobeFault) (done : Result (Unit {0}) WardrobeFault)
     (text : Result (List ℕ) memory.NoMemory) (n : ℕ) → IsAt s old
-    → Gives (make old.wardrobe) old.wardrobe done w → IfOk text (WardrobeReplies old.quiet done) → IfOk text (λ reply. Did (clothed s (make s.wardrobe)) old.city.changes (record old { wardrobe = w }) reply n n)
+    → Gives (make old.wardrobe) old.wardrobe done w → IfOk text (WardrobeReplies old.quiet done)
+    → IfOk text (λ reply. Did (clothed s (make s.wardrobe)) old.city.changes (record old { wardrobe = w }) reply n n)
 clothed_did s old w make done (Err none) n at g told = tt
 clothed_did s old w make done (Ok reply) n at g told =
     subst (λ (x : WardrobeView). Did (clothed s (make x)) old.city.changes (record old { wardrobe = w }) reply n n) at.wardrobe (done_did s old w (make old.wardrobe) done reply n at g told)

@@ -181,7 +181,11 @@ module _ (told : Talk) (d : ℕ) (read : List ℕ) (old mid : Outside) (session 
         record { reads = same.reads ∙ reads; writes = calm },
         (read, gave_same read old mid new r.gave same, subst IsAtEnd (sym same.left) at_end, all_told next last new q f.expanded f.held),
       ))
-      (λ failed. (failed, end_some new same (finished_some told (effect_of_lines d (take limit read)).state (last_of (cut (take limit read)).rest) next mid.held last.held new.held mid.expanded last.expanded q f.held)))
+      (λ failed. (
+        failed,
+        end_some new same (finished_some told (effect_of_lines d (take limit read)).state
+            (last_of (cut (take limit read)).rest) next mid.held last.held new.held mid.expanded last.expanded q f.held),
+      ))
 
 -- and so the session has come to the state of the whole script
 pub came_to : (told : Talk) (d : ℕ) (read : List ℕ) (old mid : Outside) (session next : Session) (pending : Pending)

@@ -74,7 +74,8 @@ given_done d bytes status old mid new all spent calm f =
             record { by = spent_then (effect_of_script d bytes).works old.expanded mid.expanded new.expanded f.expanded spent },
           )
       | inr is ↦ let unwanted : status ≢ Done = λ e. other (sym e ∙ is) in
-          subst (λ (s : Status). GivenMeans d bytes s old new) (sym is) (subst (λ (n : ℕ). Rose n new.writes_failed) calm (f.fault unwanted), some_kept old.held mid.held new.held (output_of d bytes) all f.held)
+          subst (λ (s : Status). GivenMeans d bytes s old new) (sym is)
+          (subst (λ (n : ℕ). Rose n new.writes_failed) calm (f.fault unwanted), some_kept old.held mid.held new.held (output_of d bytes) all f.held)
     ]
 
 pub given_halted : (d : ℕ) (bytes : List ℕ) (halt : Halt) (status : Status) (old new : Outside)

@@ -103,7 +103,8 @@ begun_more told s xs ys old a b c i j p q = record {
   left = q.left;
   lines_are = both_and_left told s xs ys p.turns q.turns p.lines_are q.left q.lines_are;
   changed = both_changed told s xs ys p.turns q.turns p.lines_are p.changed q.changed;
-  written = subst (AppendsSome a c) (both_text told s xs ys p.turns q.turns p.lines_are) (some_after a b c (text_by told s p.turns) (text_by told (effect_of_all s xs).state q.turns) p.written q.written);
+  written = subst (AppendsSome a c) (both_text told s xs ys p.turns q.turns p.lines_are)
+      (some_after a b c (text_by told s p.turns) (text_by told (effect_of_all s xs).state q.turns) p.written q.written);
 }
 
 -- ---- one line

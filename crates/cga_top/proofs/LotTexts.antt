@@ -93,7 +93,8 @@ module _ (mesh : Shown) (decimals before after : ℕ) (all rest : List Drawn) (a
     (come : Comes mesh decimals before all after rest a b) (none : rest ≡ []) where
   pub comes_all : Appends a b (instances_text mesh decimals before all)
   comes_all =
-      subst (Appends a b) (sym (append-nil come.done) ∙ ap (λ (t : List ℕ). come.done ++ t) (sym (ap (instances_text mesh decimals after) none ∙ none_text mesh decimals after)) ∙ come.both) come.written
+      subst (Appends a b) (sym (append-nil come.done) ∙ ap (λ (t : List ℕ). come.done ++ t)
+      (sym (ap (instances_text mesh decimals after) none ∙ none_text mesh decimals after)) ∙ come.both) come.written
 
   pub counted_all : after ≡ before + vertices_in mesh all
   counted_all = let empty = ap (vertices_in mesh) none in omega (arith, empty, come.count)
@@ -157,7 +158,8 @@ module _ (mesh : Shown) (decimals : ℕ) where
         ≡ lot_text mesh decimals before lot (drawn (lot ∷ []))
         ++ lots_text mesh decimals (drawn lots) (before + vertices_in mesh (drawn (lot ∷ []))) lots
     first_text before lot lots apart =
-        sym (one_lot mesh decimals before (lot ∷ lots) lot lots (drawn (lot ∷ lots)) (drawn (lot ∷ [])) (drawn lots) [] (lot_text mesh decimals before lot (drawn (lot ∷ []))) refl (first_of lot lots apart) refl)
+        sym (one_lot mesh decimals before (lot ∷ lots) lot lots (drawn (lot ∷ lots)) (drawn (lot ∷ []))
+        (drawn lots) [] (lot_text mesh decimals before lot (drawn (lot ∷ []))) refl (first_of lot lots apart) refl)
 
     module _ (all : List (List ℕ)) (i : ℕ) (lot : List ℕ) (before after : ℕ) (a b c : Option (List ℕ))
         (come : LotsCome drawn all (drop i all) before a b) (within : i < length all) (at : lot ≡ get_or all i lot)

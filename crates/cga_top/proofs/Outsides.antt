@@ -99,7 +99,19 @@ pub line_did : (s : State) (old : Session) (x : Block) (line : Line) (new : Open
 line_did s old x line new reply n at b e is none =
     subst (λ (t : Effect). Did t old.city.changes (record old { block = Some new }) reply n n) (sym (effect_line s x line b e))
     (record {
-      is_at = record { decimals = at.decimals; fresh = at.fresh; version = at.version; sources = at.sources; budget = at.budget; warm = at.warm; kept = at.kept; number = at.number; block = is; quiet = at.quiet; wardrobe = at.wardrobe };
+      is_at = record {
+        decimals = at.decimals;
+        fresh = at.fresh;
+        version = at.version;
+        sources = at.sources;
+        budget = at.budget;
+        warm = at.warm;
+        kept = at.kept;
+        number = at.number;
+        block = is;
+        quiet = at.quiet;
+        wardrobe = at.wardrobe;
+      };
       reply = none;
       spent = refl;
       changed = λ e. e;

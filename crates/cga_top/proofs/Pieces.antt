@@ -41,14 +41,16 @@ left_cleared p now more e same = ap (λ (q : Pending). kept_of (cut (q.kept ++ m
 pub left_kept : (p : Pending) (part more : List ℕ) → p ≡ record { kept = kept_of part; ending = Open } → more ≡ []
     → IsOneLine part → kept_of (cut (p.kept ++ more)).rest ≡ kept_of (cut part).rest
 left_kept p part more e none one =
-    ap (λ (q : Pending). kept_of (cut (q.kept ++ more)).rest) e ∙ ap (λ (m : List ℕ). kept_of (cut (kept_of part ++ m)).rest) none ∙ ap (λ (m : List ℕ). kept_of (cut m).rest) (append-nil (kept_of part))
+    ap (λ (q : Pending). kept_of (cut (q.kept ++ more)).rest) e
+    ∙ ap (λ (m : List ℕ). kept_of (cut (kept_of part ++ m)).rest) none ∙ ap (λ (m : List ℕ). kept_of (cut m).rest) (append-nil (kept_of part))
     ∙ ap kept_of (rest_of_part (kept_of part) (kept_one part one)) ∙ kept_twice part ∙ ap kept_of (sym (rest_of_part part one))
 
 -- A part of a line with nothing behind it ends no line.
 pub lines_kept_none : (p : Pending) (part more : List ℕ) → p ≡ record { kept = kept_of part; ending = Open } → more ≡ []
     → IsOneLine part → lines_of part ≡ lines_of (p.kept ++ more)
 lines_kept_none p part more e none one =
-    no_lines part one ∙ sym (ap (λ (q : Pending). lines_of (q.kept ++ more)) e ∙ ap (λ (m : List ℕ). lines_of (kept_of part ++ m)) none ∙ ap lines_of (append-nil (kept_of part)) ∙ no_lines (kept_of part) (kept_one part one))
+    no_lines part one ∙ sym (ap (λ (q : Pending). lines_of (q.kept ++ more)) e
+    ∙ ap (λ (m : List ℕ). lines_of (kept_of part ++ m)) none ∙ ap lines_of (append-nil (kept_of part)) ∙ no_lines (kept_of part) (kept_one part one))
 
 -- Nothing is left behind the end.
 pub nothing_left : (rest more : List ℕ) (n : ℕ) → n ≡ length rest → more ≡ drop n rest → more ≡ []
@@ -63,5 +65,6 @@ pub no_more_left : (p : Pending) (rest all : List ℕ) → rest ≡ [] → IsKep
     → kept_of (cut (p.kept ++ rest)).rest ≡ kept_of (cut all).rest
     → p ≡ record { kept = kept_of (cut all).rest; ending = Open }
 no_more_left p rest all none part e =
-    let same : p.kept ≡ kept_of (cut all).rest = sym part.short ∙ ap kept_of (sym (rest_of_part p.kept part.one)) ∙ ap (λ (r : List ℕ). kept_of (cut r).rest) (sym (append-nil p.kept) ∙ ap (λ (r : List ℕ). p.kept ++ r) (sym none)) ∙ e in
+    let same : p.kept ≡ kept_of (cut all).rest = sym part.short ∙ ap kept_of (sym (rest_of_part p.kept part.one))
+    ∙ ap (λ (r : List ℕ). kept_of (cut r).rest) (sym (append-nil p.kept) ∙ ap (λ (r : List ℕ). p.kept ++ r) (sym none)) ∙ e in
     ap (λ (e : Ending). record { kept = p.kept; ending = e }) part.open_line ∙ ap (λ (k : List ℕ). record { kept = k; ending = Open }) same

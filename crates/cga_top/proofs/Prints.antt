@@ -58,7 +58,8 @@ all_repriced : (symbol : List ℕ) (priority : ℕ) (es : List Entry) → All Pr
     → All Prints (prioritized symbol priority es)
 all_repriced symbol priority [] ps = All-nil Prints
 all_repriced symbol priority (e ∷ es) ps =
-    All-cons Prints (with_priority symbol priority e) (prioritized symbol priority es) (one_repriced symbol priority e (is_of symbol e) (All-head Prints e es ps)) (all_repriced symbol priority es (All-tail Prints e es ps))
+    All-cons Prints (with_priority symbol priority e) (prioritized symbol priority es)
+    (one_repriced symbol priority e (is_of symbol e) (All-head Prints e es ps)) (all_repriced symbol priority es (All-tail Prints e es ps))
 
 -- ---- sources
 
@@ -83,14 +84,19 @@ regrammared : (s : Sources) (g : Grammar) → ArePrintable g.rules → Keeps (wi
 regrammared s g ps = after (rooted g s.lots) (λ u. Ok (record s { grammar = g })) (λ u. ps)
 
 reruled : (s : Sources) (rules : List Entry) → All Prints rules → Keeps (ruled s rules)
-reruled s rules ps = after (checked (record { attributes = s.grammar.attributes; rules = rules })) (λ u. with_grammar s (record { attributes = s.grammar.attributes; rules = rules })) (λ u. regrammared s (record { attributes = s.grammar.attributes; rules = rules }) ps)
+reruled s rules ps = after (checked (record { attributes = s.grammar.attributes; rules = rules }))
+    (λ u. with_grammar s (record { attributes = s.grammar.attributes; rules = rules }))
+    (λ u. regrammared s (record { attributes = s.grammar.attributes; rules = rules }) ps)
 
 changed_keeps : (s : Sources) (e : Edit) → ArePrintable s.grammar.rules → IsWritten e → Keeps (changed s e)
 changed_keeps s (edit.Rules g) ps w = after (checked g) (λ u. with_grammar s (ranked g)) (λ u. regrammared s (ranked g) (all_ranked g w))
-changed_keeps s (edit.Put priority rule) ps w = reruled s (with_rule (record { priority = priority; rule = rule }) s.grammar.rules) (with_one (record { priority = priority; rule = rule }) s.grammar.rules w ps)
-changed_keeps s (edit.Drop id) ps w = found (rule_place id s.grammar.rules) (λ i. ruled s (remove s.grammar.rules i)) (cause.NoRule id) (λ i. reruled s (remove s.grammar.rules i) (all_removed s.grammar.rules i ps))
+changed_keeps s (edit.Put priority rule) ps w = reruled s (with_rule (record { priority = priority; rule = rule })
+    s.grammar.rules) (with_one (record { priority = priority; rule = rule }) s.grammar.rules w ps)
+changed_keeps s (edit.Drop id) ps w = found (rule_place id s.grammar.rules)
+    (λ i. ruled s (remove s.grammar.rules i)) (cause.NoRule id) (λ i. reruled s (remove s.grammar.rules i) (all_removed s.grammar.rules i ps))
 changed_keeps s (edit.SetAttribute name value) ps w = found (attribute_place name s.grammar.attributes) (λ i. Ok (valued s name value i)) (cause.NoAttribute name) (λ i. ps)
-changed_keeps s (edit.SetPriority symbol priority) ps w = unless (not (has_rule s.grammar symbol)) (cause.NoSymbol symbol) (Ok (repriced s symbol priority)) (all_repriced symbol priority s.grammar.rules ps)
+changed_keeps s (edit.SetPriority symbol priority) ps w = unless (not (has_rule s.grammar symbol))
+    (cause.NoSymbol symbol) (Ok (repriced s symbol priority)) (all_repriced symbol priority s.grammar.rules ps)
 changed_keeps s (edit.SetLot lot) ps w =
     let last : Changed = Ok (record s { lots = with_lot lot s.lots }) in
     unless (not (is_plain s.grammar lot.symbol)) (cause.NoSymbol lot.symbol) (err_if (is_bad lot) (cause.BadLot lot.name) (err_if (finds_no_room lot s.lots) cause.TooManyLots last))

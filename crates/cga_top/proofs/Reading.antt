@@ -101,7 +101,8 @@ module _ (told : Talk) (d : ℕ) (read chunk piece : List ℕ) (old mid new : Ou
   reads_more next after each e flushed calm = record {
     gave = gave_more old mid new read chunk r.gave more;
     lived = subst (λ (l : List Line). Lived told (start d) l next old.held new.held old.expanded new.expanded) (sym (lines_more read chunk piece lines few first r.lines_are))
-        (lived_more told (start d) (lines_of (take limit read)) (lines_of (lines.kept ++ piece)) session next old.held mid.held new.held old.expanded mid.expanded new.expanded r.lived (each so_far r.lived.here));
+        (lived_more told (start d) (lines_of (take limit read)) (lines_of (lines.kept ++ piece)) session next
+        old.held mid.held new.held old.expanded mid.expanded new.expanded r.lived (each so_far r.lived.here));
     lines_are = e ∙ pending_is read chunk piece lines few first r.lines_are;
     flushed = λ some. flushed;
     calm = calm ∙ r.calm;

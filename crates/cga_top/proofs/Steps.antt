@@ -75,7 +75,8 @@ are_changes : (s : State) (old : Session) (city : CityState) (e : Edit) (i j : �
 are_changes s old city e i j at can done =
     let changes : AreChanges old.city.budget old.city.sources city.sources city.changes = record {
       by = done.changed;
-      there = gone_reported old.city.budget old.city.sources city.sources (members old.city.budget old.city.sources) (members old.city.budget city.sources) city.changes done.changed can.sound can.fits;
+      there = gone_reported old.city.budget old.city.sources city.sources
+          (members old.city.budget old.city.sources) (members old.city.budget city.sources) city.changes done.changed can.sound can.fits;
       balance = subst (λ (b : ℕ). Balances (drawn_by old.city) (drawn_from b city.sources) city.changes) done.budget_stays (balances old.city e city i j can done city.changes refl);
     } in
     subst (λ (b : ℕ). AreChanges b s.sources city.sources city.changes) at.budget
@@ -140,7 +141,8 @@ change_did s old new history e before (Ok reply) i j two h =
     let a = h.accepts in
     let k : history ≡ noted s.kept s.sources =
     h.kept ∙ ap (λ (k : Kept). noted k before) (ap (λ (x : Session). x.history) a.others ∙ at.kept) ∙ ap (noted s.kept) (a.before_is ∙ at.sources) in
-    subst (λ (k : Kept). Did (changed s k (applied s e)) old.city.changes (record new { history = history }) reply i j) (k ∙ noted_in s old Two at two) (changed_did s old new history e before reply i j at h.apart a h.reply)
+    subst (λ (k : Kept). Did (changed s k (applied s e)) old.city.changes (record new { history = history }) reply
+    i j) (k ∙ noted_in s old Two at two) (changed_did s old new history e before reply i j at h.apart a h.reply)
 
 -- and in version 1 they aren't
 pub alone_did : (s : State) (old new : Session) (e : Edit) (text : Result (List ℕ) NoMemory) (i j : ℕ)

@@ -48,7 +48,9 @@ some_all : (a b : Option (List ℕ)) (bytes : List ℕ) → Appends a b bytes �
 some_all a b bytes p = (length bytes, rw take-length p)
 
 -- behind a script that was done
-module _ (d : ℕ) (session : Session) (old mid new : Outside) (done : StatusMeans d Done old mid) (came : (bytes : List ℕ) × (mid.given ≡ old.given ++ bytes) × IsAt (effect_of_script d bytes).state session) (source : SameSource mid new) (spent : new.expanded ≡ mid.expanded) where
+module _ (d : ℕ) (session : Session) (old mid new : Outside) (done : StatusMeans d Done old mid)
+    (came : (bytes : List ℕ) × (mid.given ≡ old.given ++ bytes) × IsAt (effect_of_script d bytes).state session)
+    (source : SameSource mid new) (spent : new.expanded ≡ mid.expanded) where
   abbrev bytes : List ℕ
   bytes = done.3.0
 

@@ -31,7 +31,9 @@ module _ {A : Type 0} (w : A → Pieces) (p : ℕ → Reader A) (form : IsForm w
       → by_length w bytes long (line_told (p 32) line)
   unfolding line_told
   length_tells bytes true line e l = rw l refl
-  length_tells bytes false line e l = rw l (subst (λ b. by_tokens w (length b + 1) (tokens_of b) (told_of (p 32) (length line.bytes + 1) (tokens_of line.bytes))) e (tokens_tell (length line.bytes + 1) (tokens_of line.bytes)))
+  length_tells bytes false line e l = rw l
+      (subst (λ b. by_tokens w (length b + 1) (tokens_of b)
+      (told_of (p 32) (length line.bytes + 1) (tokens_of line.bytes))) e (tokens_tell (length line.bytes + 1) (tokens_of line.bytes)))
 
   pub line_tells : (line : Line) → by_length w line.bytes (is_long line) (line_told (p 32) line)
   line_tells line = length_tells line.bytes (is_long line) line refl refl
@@ -47,7 +49,9 @@ module _ {A : Type 0} (w : A → Pieces) (p : ℕ → Reader A) (form : IsForm w
       → unless_long w bytes long (line_found (p 32) line)
   unfolding line_found
   long_tells bytes true line e l = rw l refl
-  long_tells bytes false line e l = rw l (subst (λ b. unless_blank w (length b + 1) (tokens_of b) (found_of (p 32) (length line.bytes + 1) (tokens_of line.bytes))) e (blank_tells (length line.bytes + 1) (tokens_of line.bytes)))
+  long_tells bytes false line e l = rw l
+      (subst (λ b. unless_blank w (length b + 1) (tokens_of b)
+      (found_of (p 32) (length line.bytes + 1) (tokens_of line.bytes))) e (blank_tells (length line.bytes + 1) (tokens_of line.bytes)))
 
   line_finds : (line : Line) → BlockTells w line (line_found (p 32) line)
   line_finds line = long_tells line.bytes (is_long line) line refl refl
@@ -56,7 +60,8 @@ module _ {A : Type 0} (w : A → Pieces) (p : ℕ → Reader A) (form : IsForm w
   abbrev Tell : ℕ → List Line → Result (List (Option A)) BlockFault → Type 0
   Tell n lines (Ok all) = Say w lines all
   Tell n lines (Err f) =
-      (before : List Line) × (l : Line) × (after : List Line) × (all : List (Option A)) × (lines ≡ before ++ l ∷ after) × Say w before all × BlockTells w l (Err f.fault) × (f.line ≡ line_number (n + length before))
+      (before : List Line) × (l : Line) × (after : List Line) × (all : List (Option A))
+      × (lines ≡ before ++ l ∷ after) × Say w before all × BlockTells w l (Err f.fault) × (f.line ≡ line_number (n + length before))
 
   one_more : (n : ℕ) (line : Line) (lines : List Line) (said : Option A) (more : Result (List (Option A)) BlockFault)
       → BlockTells w line (Ok said) → Tell (suc n) lines more

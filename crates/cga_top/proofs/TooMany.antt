@@ -29,13 +29,15 @@ module _ (g : Grammar) where
   rules_many : nat_lt 512 (length g.rules) ≡ true → check_fault g ≡ Err TooManyRules
   unfolding check_fault
   rules_many r =
-      ap (λ t. first (fault_if t TooManyRules ++ (fault_if (nat_lt 128 (length g.attributes)) TooManyAttributes ++ (each_after attribute_faults [] g.attributes ++ each_after (rule_faults g) [] g.rules)))) r
+      ap (λ t. first (fault_if t TooManyRules ++ (fault_if (nat_lt 128 (length g.attributes)) TooManyAttributes
+      ++ (each_after attribute_faults [] g.attributes ++ each_after (rule_faults g) [] g.rules)))) r
 
   attributes_many : nat_lt 512 (length g.rules) ≡ false → nat_lt 128 (length g.attributes) ≡ true
       → check_fault g ≡ Err TooManyAttributes
   unfolding check_fault
   attributes_many r a =
-      ap (λ t. first (fault_if t TooManyRules ++ (fault_if (nat_lt 128 (length g.attributes)) TooManyAttributes ++ (each_after attribute_faults [] g.attributes ++ each_after (rule_faults g) [] g.rules)))) r
+      ap (λ t. first (fault_if t TooManyRules ++ (fault_if (nat_lt 128 (length g.attributes)) TooManyAttributes
+      ++ (each_after attribute_faults [] g.attributes ++ each_after (rule_faults g) [] g.rules)))) r
       ∙ ap (λ t. first (fault_if t TooManyAttributes ++ (each_after attribute_faults [] g.attributes ++ each_after (rule_faults g) [] g.rules))) a
 
 -- what follows on the check of what is kept is what follows on that of the whole

@@ -109,7 +109,9 @@ module _ (told : Talk) (d : ℕ) (bytes : List ℕ) where
       let first : List ℕ = text_by told (start d) p.turns in
       let second : List ℕ = text_by told mid_state q.turns in
       let same : first ++ (second ++ end) ≡ text_by told (start d) turns ++ end_of d bytes =
-      sym (append_assoc first second end) ∙ ap (λ (t : List ℕ). t ++ end) (both_text told (start d) lines rest p.turns q.turns p.lines_are) ∙ ap (λ (t : List ℕ). text_by told (start d) turns ++ t) end_is in
+      sym (append_assoc first second end)
+      ∙ ap (λ (t : List ℕ). t ++ end) (both_text told (start d) lines rest p.turns q.turns p.lines_are)
+      ∙ ap (λ (t : List ℕ). text_by told (start d) turns ++ t) end_is in
       let e : Effect = effect_of_all (start d) lines in
       let f : Effect = effect_of_all mid_state rest in
       let spent : HasSpent (effect_of_all (start d) (all_lines bytes)).works i k =

@@ -30,7 +30,8 @@ there_sound list s h =
 
 there_whole : (list : List Member) (s : Shape) → NonInstance list s → is_there list s ≡ true
 there_whole list s (k, has, plain) =
-    any_by (λ m. not (is_instance m.kind) && same_shape m.shape s) list (record { shape = s; kind = k }) (Has-Among list s k has) (pair (not (is_instance k)) (same_shape s s) (is_not (is_instance k) plain) (shape_tells s).1)
+    any_by (λ m. not (is_instance m.kind) && same_shape m.shape s) list (record { shape = s; kind = k })
+    (Has-Among list s k has) (pair (not (is_instance k)) (same_shape s s) (is_not (is_instance k) plain) (shape_tells s).1)
 
 module _ (old new : Sources) where
   module _ (before after : List Member) (s : Shape) where

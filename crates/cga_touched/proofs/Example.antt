@@ -21,5 +21,8 @@ use Rattle.cga_touched.specs.Count.{turns_of, is_kept, has_same_inputs, touched_
 use Rattle.cga_touched.specs.Example.{TownIsTouched}
 
 pub town_is_touched : TownIsTouched
-unfolding plus minus reduced gcd gcd_within rat_le word_of state_after scope_of existing world_point groups.priority_of first_entry group rules_of placed by_id mentions_target mentions_attribute rule_uses reached step derive answers_of asks_for priority_of children_of expand_of expansion setting_of same_shape same_scope same_setting turns_of is_kept has_same_inputs touched_shapes touched_count
+unfolding plus minus reduced gcd gcd_within rat_le word_of state_after scope_of existing world_point
+    groups.priority_of first_entry group rules_of placed by_id mentions_target mentions_attribute rule_uses reached
+    step derive answers_of asks_for priority_of children_of expand_of expansion setting_of same_shape same_scope
+    same_setting turns_of is_kept has_same_inputs touched_shapes touched_count
 town_is_touched = record { nothing = refl; grown = refl; added = refl; removed = refl; another_rule = refl; priority = refl; mode = refl }

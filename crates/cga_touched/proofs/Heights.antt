@@ -75,11 +75,13 @@ first_is h = refl
 
 -- of these numbers alone: the range of a scope is computed
 second_one : step (derivation_of (farm one)) (record { shape = root; kind = Waiting } ∷ []) ≡ after_root one
-unfolding step plus minus reduced times gcd gcd_within rat_le checked scope_of existing world_point word_of state_after groups.priority_of first_entry priority_of rules_of placed by_id number_of children_of expand_of expansion
+unfolding step plus minus reduced times gcd gcd_within rat_le checked scope_of existing world_point word_of
+    state_after groups.priority_of first_entry priority_of rules_of placed by_id number_of children_of expand_of expansion
 second_one = rw (item_Child d [], item_Resize whole high whole, named_is height, item_Child b []) refl
 
 second_two : step (derivation_of (farm two)) (record { shape = root; kind = Waiting } ∷ []) ≡ after_root two
-unfolding step plus minus reduced times gcd gcd_within rat_le checked scope_of existing world_point word_of state_after groups.priority_of first_entry priority_of rules_of placed by_id number_of children_of expand_of expansion
+unfolding step plus minus reduced times gcd gcd_within rat_le checked scope_of existing world_point word_of
+    state_after groups.priority_of first_entry priority_of rules_of placed by_id number_of children_of expand_of expansion
 second_two = rw (item_Child d [], item_Resize whole high whole, named_is height, item_Child b []) refl
 
 third_is : (h : Rat) → step (derivation_of (farm h)) (after_root h) ≡ after_yard h

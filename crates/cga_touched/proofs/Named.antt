@@ -21,7 +21,8 @@ module _ (name : List ℕ) where
       → value.factor_value (roll-Factor (record { minus = false; primary = Named name })) k ≡ Ok (number_of k name)
   unfolding value.primary_value value.added_value value.expr_value value.factor_value value.scaled_value value.term_value
   factor_value k =
-      ap (λ (m : Meaning). m k) (fold-roll-Factor Meaning Marked Meaning Meaning Marked Meaning value.primary_step value.added_step value.expr_step value.factor_step value.scaled_step value.term_step (record { minus = false; primary = Named name }))
+      ap (λ (m : Meaning). m k) (fold-roll-Factor Meaning Marked Meaning Meaning Marked Meaning value.primary_step
+      value.added_step value.expr_step value.factor_step value.scaled_step value.term_step (record { minus = false; primary = Named name }))
       ∙ ap (λ (r : Computed). and_then r (λ x. Ok (signed false x))) (primary_Named name k)
 
   term_value : (k : Known)
@@ -30,13 +31,17 @@ module _ (name : List ℕ) where
       (number_of k name)
   unfolding value.primary_value value.added_value value.expr_value value.factor_value value.scaled_value value.term_value
   term_value k =
-      ap (λ (m : Meaning). m k) (fold-roll-Term Meaning Marked Meaning Meaning Marked Meaning value.primary_step value.added_step value.expr_step value.factor_step value.scaled_step value.term_step (record { first = roll-Factor (record { minus = false; primary = Named name }); rest = [] }))
+      ap (λ (m : Meaning). m k) (fold-roll-Term Meaning Marked Meaning Meaning Marked Meaning value.primary_step
+      value.added_step value.expr_step value.factor_step value.scaled_step value.term_step
+      (record { first = roll-Factor (record { minus = false; primary = Named name }); rest = [] }))
       ∙ ap (λ (r : Computed). and_then r (λ x. Ok x)) (factor_value k)
 
   named_value : (k : Known) → value.expr_value (named name) k ≡ Ok (number_of k name)
   unfolding value.primary_value value.added_value value.expr_value value.factor_value value.scaled_value value.term_value
   named_value k =
-      ap (λ (m : Meaning). m k) (fold-roll-Expr Meaning Marked Meaning Meaning Marked Meaning value.primary_step value.added_step value.expr_step value.factor_step value.scaled_step value.term_step (record { first = roll-Term (record { first = roll-Factor (record { minus = false; primary = Named name }); rest = [] }); rest = [] }))
+      ap (λ (m : Meaning). m k) (fold-roll-Expr Meaning Marked Meaning Meaning Marked Meaning value.primary_step
+      value.added_step value.expr_step value.factor_step value.scaled_step value.term_step
+      (record { first = roll-Term (record { first = roll-Factor (record { minus = false; primary = Named name }); rest = [] }); rest = [] }))
       ∙ ap (λ (r : Computed). and_then r (λ x. Ok x)) (term_value k)
 
   pub named_is : value.expr_value (named name) ≡ (λ k. Ok (number_of k name))
@@ -53,11 +58,14 @@ module _ (name : List ℕ) where
   term_uses : used.term_uses (roll-Term (record { first = roll-Factor (record { minus = false; primary = Named name }); rest = [] })) ≡ named_use.Named name ∷ []
   unfolding used.only used.primary_uses used.added_uses used.expr_uses used.factor_uses used.scaled_uses used.term_uses
   term_uses =
-      fold-roll-Term Uses Uses Uses Uses Uses Uses used.primary_step used.added_step used.expr_step used.factor_step used.scaled_step used.term_step (record { first = roll-Factor (record { minus = false; primary = Named name }); rest = [] })
+      fold-roll-Term Uses Uses Uses Uses Uses Uses used.primary_step used.added_step used.expr_step
+      used.factor_step used.scaled_step used.term_step (record { first = roll-Factor (record { minus = false; primary = Named name }); rest = [] })
       ∙ ap (λ (us : Uses). us ++ []) factor_uses
 
   pub named_uses : used.expr_uses (named name) ≡ named_use.Named name ∷ []
   unfolding used.only used.primary_uses used.added_uses used.expr_uses used.factor_uses used.scaled_uses used.term_uses
   named_uses =
-      fold-roll-Expr Uses Uses Uses Uses Uses Uses used.primary_step used.added_step used.expr_step used.factor_step used.scaled_step used.term_step (record { first = roll-Term (record { first = roll-Factor (record { minus = false; primary = Named name }); rest = [] }); rest = [] })
+      fold-roll-Expr Uses Uses Uses Uses Uses Uses used.primary_step used.added_step used.expr_step
+      used.factor_step used.scaled_step used.term_step
+      (record { first = roll-Term (record { first = roll-Factor (record { minus = false; primary = Named name }); rest = [] }); rest = [] })
       ∙ ap (λ (us : Uses). us ++ []) term_uses

@@ -91,4 +91,5 @@ module _ (old new : Grammar) (symbol : List ℕ) where
   unfolding same_setting
   setting_whole e =
       subst (λ s. (same_option same_group (setting_of old symbol).group s.group && list_all (same_value (setting_of old symbol) s) (old.attributes ++ new.attributes)) ≡ true) e
-      (pair (same_option same_group (setting_of old symbol).group (setting_of old symbol).group) _ (option_tells same_group group_tells (setting_of old symbol).group).1 (all_own (setting_of old symbol) (old.attributes ++ new.attributes)))
+      (pair (same_option same_group (setting_of old symbol).group (setting_of old symbol).group) _
+      (option_tells same_group group_tells (setting_of old symbol).group).1 (all_own (setting_of old symbol) (old.attributes ++ new.attributes)))

@@ -63,8 +63,15 @@ module _ (sources : Sources) where
     | inl below ↦ later (reached (derivation_of sources) n) (next_of (derivation_of sources) (reached (derivation_of sources) n)) (turns_of sources n) _ (taken n k m e below)
     | inr above ↦
         let at : k ≡ n = omega (arith, lt, above) in
-        subst (λ j. Among (record { shape = m.shape; answers = asked (derivation_of sources) (reached (derivation_of sources) j) m.shape }) (with_turn sources (reached (derivation_of sources) n) (next_of (derivation_of sources) (reached (derivation_of sources) n)) (turns_of sources n))) (sym at)
-        (here (reached (derivation_of sources) n) (next_of (derivation_of sources) (reached (derivation_of sources) n)) (turns_of sources n) m (ap (λ j. next_of (derivation_of sources) (reached (derivation_of sources) j)) (sym at) ∙ e))
+        subst (λ j. Among (record {
+          shape = m.shape;
+          answers = asked (derivation_of sources)
+              (reached (derivation_of sources) j) m.shape;
+        }) (with_turn sources (reached (derivation_of sources) n)
+        (next_of (derivation_of sources) (reached (derivation_of sources) n)) (turns_of sources n))) (sym at)
+        (here (reached (derivation_of sources) n)
+        (next_of (derivation_of sources) (reached (derivation_of sources) n)) (turns_of sources n) m
+        (ap (λ j. next_of (derivation_of sources) (reached (derivation_of sources) j)) (sym at) ∙ e))
   ]
 
   -- no step takes one where nothing waits
@@ -111,5 +118,7 @@ pub alike_whole : (old new : Sources) (n m : ℕ) (s : Shape)
     → AnsweredAlike old new s → is_answered_alike (turns_of old n) (turns_of new m) s ≡ true
 alike_whole old new n m s quiet calm (answers, was, is) =
     let later : list_any (is_turn s answers) (turns_of new m) ≡ true =
-    any_by (is_turn s answers) (turns_of new m) (record { shape = s; answers = answers }) (answered_listed new m calm s answers is) (pair (same_shape s s) (same_answers answers answers) (shape_tells s).1 (answers_tell answers).1) in
-    any_by (λ turn. same_shape turn.shape s && list_any (is_turn s turn.answers) (turns_of new m)) (turns_of old n) (record { shape = s; answers = answers }) (answered_listed old n quiet s answers was) (pair (same_shape s s) _ (shape_tells s).1 later)
+    any_by (is_turn s answers) (turns_of new m) (record { shape = s; answers = answers })
+    (answered_listed new m calm s answers is) (pair (same_shape s s) (same_answers answers answers) (shape_tells s).1 (answers_tell answers).1) in
+    any_by (λ turn. same_shape turn.shape s && list_any (is_turn s turn.answers) (turns_of new m)) (turns_of old n)
+    (record { shape = s; answers = answers }) (answered_listed old n quiet s answers was) (pair (same_shape s s) _ (shape_tells s).1 later)

@@ -118,7 +118,9 @@ module _ (sources : Sources) (differ : NamesDiffer sources.lots) (v : ForestView
           let above = (W.chain own).priorities in
           let made : W.expand own d.node.answers ≡ Ok (map (placed (rules_of sources).priority above) cs) = ap (all_placed (rules_of sources).priority above) e in
           let settled = subst (IsSettled W nodes own d.node.kind) made right.1 in
-          ap (λ k. outcome_from k (length d.children)) settled.0 ∙ ap trace.Grew (count d.node.answers (map (placed (rules_of sources).priority above) cs) made settled.1 ∙ length-map (placed (rules_of sources).priority above) cs)
+          ap (λ k. outcome_from k (length d.children)) settled.0
+          ∙ ap trace.Grew (count d.node.answers (map (placed (rules_of sources).priority above) cs) made
+          settled.1 ∙ length-map (placed (rules_of sources).priority above) cs)
       came (Err f) e =
           let above = (W.chain own).priorities in
           let made : W.expand own d.node.answers ≡ Err f = ap (all_placed (rules_of sources).priority above) e in
@@ -130,9 +132,11 @@ module _ (sources : Sources) (differ : NamesDiffer sources.lots) (v : ForestView
       told end quiet =
           let start = stands.started top bounded in
           let for = start_stands (shapes_of sources) (rules_of sources) are (rules_of sources) nodes start (reached (derivation_of sources) end) (end, refl, quiet) in
-          let (n, m, next, same, got) = for.answers (rank (shapes_of sources) content (rules_of sources) d.node) d.node.kind d.node.answers (keeps (shapes_of sources) content (rules_of sources) (node_at v) stands.city top bounded c d t) inner in
+          let (n, m, next, same, got) = for.answers (rank (shapes_of sources) content (rules_of sources) d.node)
+          d.node.kind d.node.answers (keeps (shapes_of sources) content (rules_of sources) (node_at v) stands.city top bounded c d t) inner in
           let list = reached (derivation_of sources) n in
-          let final : outcome_of (outcome (derivation_of sources) list d.node.shape) ≡ outcome_from d.node.kind (length d.children) = sym (came (outcome (derivation_of sources) list d.node.shape) (ap (children_of sources.grammar d.node.shape) (sym got))) in
+          let final : outcome_of (outcome (derivation_of sources) list d.node.shape) ≡ outcome_from d.node.kind
+          (length d.children) = sym (came (outcome (derivation_of sources) list d.node.shape) (ap (children_of sources.grammar d.node.shape) (sym got))) in
           let step : step_of_node d ≡ traced sources list d.node.shape = λ i. record {
             lot = d.node.shape.lot;
             path = d.node.shape.path;

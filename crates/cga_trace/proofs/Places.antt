@@ -72,7 +72,8 @@ module _ {N A F P : Type 0} (derivation : Derivation N A F P) (s : N) where
       let e : suc k + n ≡ suc (k + n) = omega arith in
       subst (λ j. Inner (reached derivation j)) (sym e) (step_has (reached derivation (k + n)) (next_of derivation (reached derivation (k + n))) (stays n k h))
 
-module _ (sources : Sources) (differ : NamesDiffer sources.lots) (end : ℕ) (quiet : NothingWaits (derivation_of sources) (reached (derivation_of sources) end)) (v : ForestView) (stands : NodesStand sources v) where
+module _ (sources : Sources) (differ : NamesDiffer sources.lots) (end : ℕ)
+    (quiet : NothingWaits (derivation_of sources) (reached (derivation_of sources) end)) (v : ForestView) (stands : NodesStand sources v) where
   abbrev D : Derivation Shape Answers ShapeFault Primitive
   D = derivation_of sources
 
@@ -80,7 +81,8 @@ module _ (sources : Sources) (differ : NamesDiffer sources.lots) (end : ℕ) (qu
   list = reached (derivation_of sources) end
 
   for : StandsFor (shapes_of sources) (rules_of sources) (nodes sources differ v stands) list
-  for = start_stands (shapes_of sources) (rules_of sources) (are sources differ v stands) (rules_of sources) (nodes sources differ v stands) (stands.started (top sources differ v stands) (bounded sources differ v stands)) list (end, refl, quiet)
+  for = start_stands (shapes_of sources) (rules_of sources) (are sources differ v stands) (rules_of sources)
+      (nodes sources differ v stands) (stands.started (top sources differ v stands) (bounded sources differ v stands)) list (end, refl, quiet)
 
   -- a member is a node
   node_of : (s : Shape) (k : Kind ShapeFault Primitive) → Has list s k → is_instance k ≡ false

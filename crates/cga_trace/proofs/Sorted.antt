@@ -198,7 +198,9 @@ module _ (sources : Sources) where
     told_is_in n t (m, e, is) =
         let lt = early n m e in
         let gap : (end - suc n) + suc n ≡ end = omega (arith, lt) in
-        let here : Among t (run_to sources (suc n)) = subst (Among t) (sym (one_more sources [] n m e)) (subst (λ x. Among x (run_to sources n ++ traced sources (reached (derivation_of sources) n) m.shape ∷ [])) (sym is) (among_last (run_to sources n) (traced sources (reached (derivation_of sources) n) m.shape))) in
+        let here : Among t (run_to sources (suc n)) = subst (Among t) (sym (one_more sources [] n m e))
+        (subst (λ x. Among x (run_to sources n ++ traced sources (reached (derivation_of sources) n) m.shape
+        ∷ [])) (sym is) (among_last (run_to sources n) (traced sources (reached (derivation_of sources) n) m.shape))) in
         subst (λ j. Among t (run_to sources j)) gap (goes_on (suc n) (end - suc n) t here)
 
   -- steps of one place in a rising list are one
@@ -218,11 +220,23 @@ module _ (sources : Sources) where
     where
       apart : (a b : TraceStep) → Before sources list a b → a.lot ≡ b.lot → a.path ≡ b.path → ⊥
       apart a b before lots paths =
-          let same : stamp_at sources list a ≡ stamp_at sources list b = λ k. stamp sources.mode (record { lot = lots k; path = paths k; priorities = priorities_down (derivation_of sources) list (lots k) (paths k) (suc (length (paths k))) }) in
+          let same : stamp_at sources list a ≡ stamp_at sources list b = λ k. stamp sources.mode
+          (record {
+            lot = lots k;
+            path = paths k;
+            priorities = priorities_down (derivation_of sources) list
+                (lots k) (paths k) (suc (length (paths k)));
+          }) in
           never sources list b (subst (λ r. stamps_cmp sources.mode r (stamp_at sources list b) ≡ Less) same before)
 
 pub sorted_is_run : SortedIsRun
 sorted_is_run sources differ end quiet steps each all rising =
     let list = reached (derivation_of sources) end in
-    let run = run_rises sources list end (rises (derivation_of sources) (sources_are_derivations sources differ) end) in
-    (end, quiet, one_list sources list steps (run_to sources end) rising run (λ t i. let k = each t i in told_is_in sources end quiet k.0 t k.1) (λ t i. let k = told_in sources end t i in let u = all k.0 t k.1 in let w = each u.0 u.1 in subst (λ x. Among x steps) (among_one sources list (run_to sources end) run u.0 t (told_is_in sources end quiet w.0 u.0 w.1) i u.2 u.3) u.1))
+    let run = run_rises sources list end (rises (derivation_of sources) (sources_are_derivations sources differ) end) in (
+      end,
+      quiet,
+      one_list sources list steps (run_to sources end) rising run (λ t i. let k = each t i in
+          told_is_in sources end quiet k.0 t k.1) (λ t i. let k = told_in sources end t i in let u = all k.0 t k.1 in
+          let w = each u.0 u.1 in subst (λ x. Among x steps) (among_one sources list (run_to sources end) run u.0 t
+          (told_is_in sources end quiet w.0 u.0 w.1) i u.2 u.3) u.1),
+    )

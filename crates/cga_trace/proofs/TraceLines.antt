@@ -15,4 +15,5 @@ pub whole : (steps : List TraceStep) (n : ℕ) (a b c : List ℕ) → n ≡ leng
     → c ≡ b ++ flat_map (λ step. step_text step ++ codes "\n") steps → c ≡ trace_text_of steps
 unfolding trace_text_of
 whole steps n a b c long is more all =
-    all ∙ (ap (λ x. x ++ flat_map (λ step. step_text step ++ codes "\n") steps) (more ∙ ap (λ x. x ++ codes "\n") (is ∙ ap header long)) ∙ ap (λ rest. (header (length steps) ++ codes "\n") ++ rest) (each_line steps))
+    all ∙ (ap (λ x. x ++ flat_map (λ step. step_text step ++ codes "\n") steps)
+    (more ∙ ap (λ x. x ++ codes "\n") (is ∙ ap header long)) ∙ ap (λ rest. (header (length steps) ++ codes "\n") ++ rest) (each_line steps))

@@ -23,7 +23,9 @@ impl Model for History {
 
     ghost Value = { Kept };
 
-    ghost coded = { code_by (List Sources × List Sources) (coded× (coded_list sources.the_row.coded) (coded_list sources.the_row.coded)) (λ k. (k.past, k.future)) (λ p. record { past = p.0; future = p.1 }) (λ _. refl) };
+    ghost coded = { code_by (List Sources × List Sources)
+        (coded× (coded_list sources.the_row.coded) (coded_list sources.the_row.coded)) (λ k. (k.past, k.future))
+        (λ p. record { past = p.0; future = p.1 }) (λ _. refl) };
 
     ghost use Rattle.cga_undo.specs.Inside.{IsKept};
 

@@ -170,11 +170,17 @@ module _ (v : ForestView) (f : IsForest v) (old new : Sources) (mode : v.mode �
         let k = Has-from_shapes_where (is_asked old new target (ranked a.node)) (members_of (kept_nodes v)) r.0 r.1 in
         let n = member-node T (length v.slots) r.0 k.0 k.1 in
         let shape : n.1.node.shape ≡ w.0 = ap (λ (m : Ranked Shape). m.shape) n.3 ∙ r.2 in
-        let passes : is_asked old new target (ranked a.node) (ranked n.1.node) n.1.node.kind ≡ true = ap (λ m. is_asked old new target (ranked a.node) m n.1.node.kind) n.3 ∙ ap (is_asked old new target (ranked a.node) r.0) n.4 ∙ k.2 in
+        let passes : is_asked old new target (ranked a.node) (ranked n.1.node) n.1.node.kind
+        ≡ true = ap (λ m. is_asked old new target (ranked a.node) m n.1.node.kind) n.3 ∙ ap (is_asked old new target (ranked a.node) r.0) n.4 ∙ k.2 in
         let apart : not (is_above T 257 n.0 by) ≡ true = not_false _ (λ up.
         let on = path_by_above v f n.0 by n.1 a n.2 here up in
-        not_true _ w.2 (on_path-make w.0 a.node.shape (ap (λ (m : Shape). m.lot) (sym shape) ∙ on.0) (ap (λ (m : Shape). m.path) (sym shape) ∙ on.1 ∙ ap (λ (m : Shape). take (length m.path) a.node.shape.path) shape))) in
-        number_any p (forest_tree v).own counts (all_nodes (forest_tree v)) n.0 (inside v f n.0 (n.1, n.2)) (◌∙◌ {b = not (is_above T 257 n.0 by) && is_asked old new target (ranked a.node) (ranked n.1.node) n.1.node.kind} (counted n.0 n.1 n.2) (and_both (not (is_above T 257 n.0 by)) (is_asked old new target (ranked a.node) (ranked n.1.node) n.1.node.kind) apart passes)) (ap p (own_is n.0 n.1 n.2) ∙ ap (λ (m : Shape). p (box_of m.scope)) shape ∙ w.3)
+        not_true _ w.2 (on_path-make w.0 a.node.shape (ap (λ (m : Shape). m.lot) (sym shape) ∙ on.0)
+        (ap (λ (m : Shape). m.path) (sym shape) ∙ on.1 ∙ ap (λ (m : Shape). take (length m.path) a.node.shape.path) shape))) in
+        number_any p (forest_tree v).own counts (all_nodes (forest_tree v)) n.0 (inside v f n.0 (n.1, n.2))
+        (◌∙◌ {b = not (is_above T 257 n.0 by) && is_asked old new target (ranked a.node) (ranked n.1.node)
+        n.1.node.kind} (counted n.0 n.1 n.2)
+        (and_both (not (is_above T 257 n.0 by)) (is_asked old new target (ranked a.node) (ranked n.1.node)
+        n.1.node.kind) apart passes)) (ap p (own_is n.0 n.1 n.2) ∙ ap (λ (m : Shape). p (box_of m.scope)) shape ∙ w.3)
 
     same : list_any p (asked (forest_tree v) by target (all_nodes (forest_tree v))) ≡ list_any p
         (boxes_beside a.node.shape shapes)
@@ -185,8 +191,12 @@ module _ (v : ForestView) (f : IsForest v) (old new : Sources) (mode : v.mode �
       answer_of (box_of a.node.shape.scope) (boxes_beside a.node.shape shapes)
   unfolding answer_of
   answer_is =
-      ap (λ b. graded (list_any (λ m. meets m b && holds m b) (asked (forest_tree v) by target (all_nodes (forest_tree v)))) (list_any (λ m. meets m b) (asked (forest_tree v) by target (all_nodes (forest_tree v))))) (own_is by a here)
-      ∙ ap (λ b. graded b (list_any (λ m. meets m (box_of a.node.shape.scope)) (asked (forest_tree v) by target (all_nodes (forest_tree v))))) (same (λ m. meets m (box_of a.node.shape.scope) && holds m (box_of a.node.shape.scope)))
+      ap (λ b. graded (list_any (λ m. meets m b && holds m b)
+      (asked (forest_tree v) by target (all_nodes (forest_tree v))))
+      (list_any (λ m. meets m b) (asked (forest_tree v) by target (all_nodes (forest_tree v))))) (own_is by a here)
+      ∙ ap (λ b. graded b (list_any (λ m. meets m (box_of a.node.shape.scope))
+      (asked (forest_tree v) by target (all_nodes (forest_tree v)))))
+      (same (λ m. meets m (box_of a.node.shape.scope) && holds m (box_of a.node.shape.scope)))
       ∙ ap (graded _) (same (λ m. meets m (box_of a.node.shape.scope)))
 
 -- the targets that two tests tell are those for which the rules of the symbol ask
@@ -206,6 +216,8 @@ pub asked_is : (v : ForestView) → IsForest v → (old new : Sources) → v.mod
     → answers ≡ agenda.asked (the_world old new) (kept_nodes v) (ranked a.node)
 unfolding answers_of
 asked_is v f old new mode by a here noparent active asks answers are = λ i. record {
-  noparent = (are.first ∙ ap (λ b. answered v by Noparent b) asks.first ∙ ap (λ x. if asks_for new.grammar a.node.shape.symbol Noparent then Some x else None) (answer_is v f old new mode by a here Noparent)) i;
-  active = (are.second ∙ ap (λ b. answered v by Active b) asks.second ∙ ap (λ x. if asks_for new.grammar a.node.shape.symbol Active then Some x else None) (answer_is v f old new mode by a here Active)) i;
+  noparent = (are.first ∙ ap (λ b. answered v by Noparent b) asks.first
+      ∙ ap (λ x. if asks_for new.grammar a.node.shape.symbol Noparent then Some x else None) (answer_is v f old new mode by a here Noparent)) i;
+  active = (are.second ∙ ap (λ b. answered v by Active b) asks.second
+      ∙ ap (λ x. if asks_for new.grammar a.node.shape.symbol Active then Some x else None) (answer_is v f old new mode by a here Active)) i;
 }

@@ -164,7 +164,8 @@ module _ {old new : Sources} {first v : ForestView} {d : DependentsView} {remove
       V T (on_of v a)
   is_first = record {
     created = created_on;
-    removed = λ b c x y vb tb tc inner asks meet. near_on removed (moved_of b x) ((start.roots.removed.each (moved_of b x)).1 (b, x, vb, tb, refl)) start.agenda.moved.near_removed c y tc inner asks meet;
+    removed = λ b c x y vb tb tc inner asks meet. near_on removed (moved_of b x)
+        ((start.roots.removed.each (moved_of b x)).1 (b, x, vb, tb, refl)) start.agenda.moved.near_removed c y tc inner asks meet;
     arrived = λ b c x y vb tb tc inner asks meet. near_on created (moved_of b x) ((start.listed.each (moved_of b x)).1 (b, x, tb, vb, refl)) start.agenda.moved.near_created c y tc inner asks meet;
     changed = changed_on;
     priced = λ c p x e tc up te inner. elim (was_there c x tc (V c) refl) [
@@ -210,7 +211,8 @@ module _ {old new : Sources} {first v : ForestView} {d : DependentsView} {remove
   pub begins : tree.IsUnderway (shapes_of new) content (rules_of new) (asks_by new.grammar) T (on_of v a)
       × ((queued : Ranked Shape → Bool) × AreQueued (shapes_of new) content T (on_of v a) queued
       × IsBegun (the_edit old new) (kept_nodes first) (kept_nodes v) queued)
-  begins = roots_begin (shapes_of new) content (rules_of old) (rules_of new) (is_rules_edit old new start.old_names start.names) (asks_by old.grammar) (asks_by new.grammar) meets_box (sees_what_meets new)
+  begins = roots_begin (shapes_of new) content (rules_of old) (rules_of new)
+      (is_rules_edit old new start.old_names start.names) (asks_by old.grammar) (asks_by new.grammar) meets_box (sees_what_meets new)
       V T (length first.slots) (length v.slots) gone (on_of v a) (kept_bound first) (kept_bound v) city new_city rerooted is_first
 
   pub lost : (list : List (Drawn (Ranked Shape) Primitive)) × ListsLost content V T list
@@ -225,7 +227,8 @@ module _ {old new : Sources} {first v : ForestView} {d : DependentsView} {remove
     laws = is_edit old new start.old_names start.names;
     started = stands_again.start (shapes_of new) content (rules_of old) (rules_of new) (asks_by old.grammar) V (length first.slots) (kept_bound first) city;
     begun = begins.1.2;
-    gone = lists_are_changes.roots (shapes_of new) content (rules_of old) (rules_of new) V T (length first.slots) (length v.slots) gone (kept_bound first) (kept_bound v) city.city new_city rerooted lost.0 lost.1;
+    gone = lists_are_changes.roots (shapes_of new) content (rules_of old) (rules_of new) V T (length first.slots)
+        (length v.slots) gone (kept_bound first) (kept_bound v) city.city new_city rerooted lost.0 lost.1;
     come = refl;
     roots = refl;
   }

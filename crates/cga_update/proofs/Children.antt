@@ -116,7 +116,9 @@ pub is_outcome : (new : Sources) (n : Node) (given answers : Answers) (outcome :
     → IsOutcome content (with_state (state_after new.grammar n given outcome) n) (children_after new.grammar n outcome)
     ((rules_of new).expand n.shape answers)
 unfolding children_of
-is_outcome new n given answers outcome is = subst (λ o. IsOutcome content (with_state (state_after new.grammar n given outcome) n) (children_after new.grammar n outcome) (placed_by n.shape o)) is (own outcome)
+is_outcome new n given answers outcome
+    is = subst (λ o. IsOutcome content (with_state (state_after new.grammar n given outcome) n)
+    (children_after new.grammar n outcome) (placed_by n.shape o)) is (own outcome)
   where
     own : (o : Outcome)
         → IsOutcome content (with_state (state_after new.grammar n given o) n) (children_after new.grammar n o)

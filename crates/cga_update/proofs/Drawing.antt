@@ -61,7 +61,8 @@ module _ (V T : ℕ → Option Seen) (one : (c b : ℕ) (d e : Seen) → V c ≡
       let w = each m (inl refl) in
       let at = seen_at m w.0 w.1 w.2 w.3 in
       ap (λ o. map told_ranked (lost_at o (lost_of ms))) at
-      ∙ (told_one m w.1 w.1.node.kind (lost_of ms) (drawn_of ms) (ap (λ (x : NodeChange). x.lot) w.3) (ap (λ (x : NodeChange). x.symbol) w.3) (ap (λ (x : NodeChange). x.scope) w.3) (told_lost ms (λ x h. each x (inr h)))
+      ∙ (told_one m w.1 w.1.node.kind (lost_of ms) (drawn_of ms) (ap (λ (x : NodeChange). x.lot) w.3)
+      (ap (λ (x : NodeChange). x.symbol) w.3) (ap (λ (x : NodeChange). x.scope) w.3) (told_lost ms (λ x h. each x (inr h)))
       ∙ ap (λ o. drawn_before m o (drawn_of ms)) (sym (ap (λ (x : NodeChange). x.primitive) w.3)))
 
   -- an instance of V under one of these numbers

@@ -15,10 +15,11 @@ use Rattle.cga_update.proofs.Places.{same_node}
 pub due_of : (o : Option Seen) (x : Chain) → due_chain o ≡ Some x
     → (d : Seen) × (o ≡ Some d) × (is_instance d.node.kind ≡ false) × (chain_kept d.node ≡ x)
 due_of None x e = let z : None ≡ Some x = e in cc
-due_of (Some d) x e = elim (is_instance d.node.kind) as (λ b. is_instance d.node.kind ≡ b → (if b then None else Some (chain_kept d.node)) ≡ Some x → (y : Seen) × (Some d ≡ Some y) × (is_instance y.node.kind ≡ false) × (chain_kept y.node ≡ x)) [
-  | true ↦ λ i f. (let z : None ≡ Some x = f in cc)
-  | false ↦ λ i f. (d, refl, i, (let z : Some (chain_kept d.node) ≡ Some x = f in cc))
-] refl e
+due_of (Some d) x e = elim (is_instance d.node.kind) as (λ b. is_instance d.node.kind ≡ b
+    → (if b then None else Some (chain_kept d.node)) ≡ Some x → (y : Seen) × (Some d ≡ Some y) × (is_instance y.node.kind ≡ false) × (chain_kept y.node ≡ x)) [
+      | true ↦ λ i f. (let z : None ≡ Some x = f in cc)
+      | false ↦ λ i f. (d, refl, i, (let z : Some (chain_kept d.node) ≡ Some x = f in cc))
+    ] refl e
 
 pub due_is : (o : Option Seen) (d : Seen) → o ≡ Some d → is_instance d.node.kind ≡ false
     → due_chain o ≡ Some (chain_kept d.node)
@@ -53,7 +54,11 @@ one_each v f mode c b x y p q same =
     let d = due_of (node_at v c) x p in
     let e = due_of (node_at v b) y q in
     let at = stamps-place mode x y same in
-    (same_node v f c b d.0 e.0 d.1 e.1 (ap (λ (w : Chain). w.lot) d.3 ∙ ap (λ z. z.0) at ∙ sym (ap (λ (w : Chain). w.lot) e.3), ap (λ (w : Chain). w.path) d.3 ∙ ap (λ z. z.1) at ∙ sym (ap (λ (w : Chain). w.path) e.3))).0
+    (same_node v f c b d.0 e.0 d.1 e.1 (
+      ap (λ (w : Chain). w.lot) d.3 ∙ ap (λ z. z.0) at
+          ∙ sym (ap (λ (w : Chain). w.lot) e.3),
+      ap (λ (w : Chain). w.path) d.3 ∙ ap (λ z. z.1) at ∙ sym (ap (λ (w : Chain). w.path) e.3),
+    )).0
 
 -- a node that isn't worked has no chain
 pub none_lent : (o : Option Chain) → is_some o ≡ false → o ≡ None

@@ -128,7 +128,8 @@ module _ (w : Work) (edit : Edit (Ranked Shape) Answers Setting ShapeFault Primi
       (asks_by w.renewal.new.now.grammar) (node_at w.forest)
   nodes_stand start turned worked working none =
       let again : StandsAgain Node Shape Answers Setting ShapeFault Primitive = stands_again in
-      again.done (shapes_of w.renewal.new.now) content (rules_of w.renewal.old.now) (rules_of w.renewal.new.now) (asks_by w.renewal.new.now.grammar) (node_at w.forest) (length w.forest.slots) start (on_of w.forest w.agenda) s.queued turned worked
+      again.done (shapes_of w.renewal.new.now) content (rules_of w.renewal.old.now) (rules_of w.renewal.new.now)
+      (asks_by w.renewal.new.now.grammar) (node_at w.forest) (length w.forest.slots) start (on_of w.forest w.agenda) s.queued turned worked
       (kept_bound w.forest) means.underway means.queued (working_is start turned worked working) (none_is none)
 
   -- what the end of the work leaves stands for the new sources

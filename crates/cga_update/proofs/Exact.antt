@@ -68,7 +68,9 @@ module _ (old new : Sources) (mode : old.mode ≡ new.mode) (before after : List
     ],
   )
 
-  module _ (now : List (kept.Node (Ranked Shape) Answers ShapeFault Primitive)) (worked : List (Ranked Shape)) (gone come : List (Drawn (Ranked Shape) Primitive)) (exact : rework.IsExactRework (shapes_of new) (rules_of old) (rules_of new) now worked gone come before after) where
+  module _ (now : List (kept.Node (Ranked Shape) Answers ShapeFault Primitive)) (worked : List (Ranked Shape))
+      (gone come : List (Drawn (Ranked Shape) Primitive))
+      (exact : rework.IsExactRework (shapes_of new) (rules_of old) (rules_of new) now worked gone come before after) where
     pub counts : (n : ℕ) → n ≡ length worked → CountsTouched old new before after n
     counts n e = (
       map (λ (m : Ranked Shape). m.shape) worked,
@@ -83,7 +85,9 @@ module _ (old new : Sources) (mode : old.mode ≡ new.mode) (before after : List
     come_is d h =
         let x = Among-map unranked_drawn come d h in
         let y = exact.each_come x.0 x.1 in
-        let found : Has after x.0.shape.shape (Instance x.0.solid) × ((parent : Shape) × (i : ℕ) × IsBelow parent i x.0.shape.shape × Touched old new before after parent) = (y.0, (y.1.0, y.1.1, y.1.2, to_touched y.1.0 y.1.3)) in
+        let found : Has after x.0.shape.shape (Instance x.0.solid)
+        × ((parent : Shape) × (i : ℕ) × IsBelow parent i x.0.shape.shape
+        × Touched old new before after parent) = (y.0, (y.1.0, y.1.1, y.1.2, to_touched y.1.0 y.1.3)) in
         subst (λ (z : Drawn Shape Primitive). Has after z.shape (Instance z.solid) × ((parent : Shape) × (i : ℕ) × IsBelow parent i z.shape × Touched old new before after parent)) x.2 found
 
     gone_is : (d : Drawn Shape Primitive) → Among d (map unranked_drawn gone)
@@ -93,8 +97,13 @@ module _ (old new : Sources) (mode : old.mode ≡ new.mode) (before after : List
     gone_is d h =
         let x = Among-map unranked_drawn gone d h in
         let y = exact.each_gone x.0 x.1 in
-        let found : Has before x.0.shape.shape (Instance x.0.solid) × ((parent : Shape) (i : ℕ) → NonInstance after parent → IsBelow parent i x.0.shape.shape → Kept old new before after parent → SameInputs old new parent → ⊥) = (y.0, λ parent i non below keeps same. y.1 parent i non below keeps.1 (from_inputs parent same)) in
-        subst (λ (z : Drawn Shape Primitive). Has before z.shape (Instance z.solid) × ((parent : Shape) (i : ℕ) → NonInstance after parent → IsBelow parent i z.shape → Kept old new before after parent → SameInputs old new parent → ⊥)) x.2 found
+        let found : Has before x.0.shape.shape (Instance x.0.solid)
+        × ((parent : Shape) (i : ℕ) → NonInstance after parent → IsBelow parent i x.0.shape.shape
+        → Kept old new before after parent → SameInputs old new parent
+        → ⊥) = (y.0, λ parent i non below keeps same. y.1 parent i non below keeps.1 (from_inputs parent same)) in
+        subst (λ (z : Drawn Shape Primitive). Has before z.shape (Instance z.solid)
+        × ((parent : Shape) (i : ℕ) → NonInstance after parent → IsBelow parent i z.shape
+        → Kept old new before after parent → SameInputs old new parent → ⊥)) x.2 found
 
     told_count : (test : reported.Drawn → Bool) (list : List (Drawn Shape Primitive))
         → count_by test (map told list) ≡ count_by (λ d. test (told d)) list

@@ -37,7 +37,9 @@ module _ (sources : Sources) (names : NamesDiffer sources.lots) (v : ForestView)
 
   not_over : IsOverBudget (new_world (the_edit sources sources)) (length (kept_nodes v)) → ⊥
   not_over h =
-      let less = (over.late (the_edit sources sources) (is_edit sources sources names names) (kept_nodes v) (is_start sources v stands) (kept_nodes v) (λ n. false) [] [] working (λ n k a g. refl) (roots_once (new_world (the_edit sources sources)) (is_edit sources sources names names).new) once (length (kept_nodes v))).0 h in
+      let less = (over.late (the_edit sources sources) (is_edit sources sources names names) (kept_nodes v)
+      (is_start sources v stands) (kept_nodes v) (λ n. false) [] [] working (λ n k a g. refl)
+      (roots_once (new_world (the_edit sources sources)) (is_edit sources sources names names).new) once (length (kept_nodes v))).0 h in
       omega (arith, less)
 
   pub stands_derived : (list : List Member) × IsDerived (expansion.derivation_of sources) list

@@ -59,7 +59,10 @@ module _ (was : Work) (rest : AgendaView) (edit : TheEdit) (s : TheState) (means
 
   none_queued : NoneOn (chains_of was.forest) was.agenda → NoneQueued edit s.nodes s.queued
   none_queued none =
-      let first : NoneQueued (the_edit was.renewal.old.now was.renewal.new.now) (kept_nodes was.forest) s.queued = empty_is_none (shapes_of was.renewal.new.now) content (rules_of was.renewal.old.now) (rules_of was.renewal.new.now) (node_at was.forest) _ (on_of was.forest was.agenda) s.queued (kept_bound was.forest) means.queued (λ c d t. is_false (on_of was.forest was.agenda c) (none c)) in
+      let first : NoneQueued (the_edit was.renewal.old.now was.renewal.new.now) (kept_nodes was.forest)
+      s.queued = empty_is_none (shapes_of was.renewal.new.now) content (rules_of was.renewal.old.now)
+      (rules_of was.renewal.new.now) (node_at was.forest) _ (on_of was.forest was.agenda) s.queued
+      (kept_bound was.forest) means.queued (λ c d t. is_false (on_of was.forest was.agenda c) (none c)) in
       subst (λ (ed : TheEdit). NoneQueued ed s.nodes s.queued) (sym means.edit_is) (subst (λ n. NoneQueued (the_edit was.renewal.old.now was.renewal.new.now) n s.queued) (sym means.nodes) first)
 
   pub turn_idle : NoneOn (chains_of was.forest) was.agenda → (calls : ℕ)

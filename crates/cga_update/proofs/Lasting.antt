@@ -25,7 +25,9 @@ use Rattle.cga_update.proofs.Facts.{said_asks}
 use Rattle.cga_update.proofs.Moves.{some_one}
 use Rattle.cga_update.proofs.Rooting.{IsRooted}
 
-module _ {old new : Sources} {first v : ForestView} {d : DependentsView} {removed created : List NodeChange} {a : AgendaView} (start : IsRooted old new first v d removed created a) (mode : Mode) (last : Last) (told : IsTold mode v d old.grammar new.grammar last) where
+module _ {old new : Sources} {first v : ForestView} {d : DependentsView} {removed created : List NodeChange}
+    {a : AgendaView} (start : IsRooted old new first v d removed created a) (mode : Mode) (last : Last)
+    (told : IsTold mode v d old.grammar new.grammar last) where
   marked_there : (c : ℕ) (x : Seen) → node_at v c ≡ Some x → IsSome (marked_at v c) → node_at first c ≡ Some x
   marked_there c x at marked = elim (was_there start c x at (node_at first c) refl) [
     | inl none ↦ (let z : false ≡ true = ap is_some (sym (start.roots.marked c ∙ none)) ∙ marked in absurd (cc))
@@ -35,7 +37,8 @@ module _ {old new : Sources} {first v : ForestView} {d : DependentsView} {remove
   asking : (c : ℕ) (x : Seen) → node_at first c ≡ Some x → is_instance x.node.kind ≡ false
       → (x.node.asks ≡ true) ⊎ (asks_by new.grammar x.node.shape ≡ true)
       → asks_in old.grammar new.grammar x.node.shape.symbol ≡ true
-  asking c x vc inner (inl was) = or_left (asks_any (said old.grammar x.node.shape.symbol)) (asks_any (said new.grammar x.node.shape.symbol)) (said_asks old.grammar x.node.shape ∙ (sym ((city start).asking c x vc inner) ∙ was))
+  asking c x vc inner (inl was) = or_left (asks_any (said old.grammar x.node.shape.symbol))
+      (asks_any (said new.grammar x.node.shape.symbol)) (said_asks old.grammar x.node.shape ∙ (sym ((city start).asking c x vc inner) ∙ was))
   asking c x vc inner (inr is) = or_right (asks_any (said old.grammar x.node.shape.symbol)) (asks_any (said new.grammar x.node.shape.symbol)) (said_asks new.grammar x.node.shape ∙ is)
 
   -- when the work begins
@@ -45,8 +48,13 @@ module _ {old new : Sources} {first v : ForestView} {d : DependentsView} {remove
       told x.node.shape.symbol c (chain_kept x.node) (asking c x vc inner asks) (listed_under start c x vc inner) (due_is (node_at v c) x at inner)
 
 -- after a turn: V and T are the nodes before and after it, and e is the node, of which kind, answers and asking may differ
-module _ (v w : ForestView) (g : Grammar) (id : ℕ) (e now : Seen) (here : node_at v id ≡ Some e) (there : node_at w id ≡ Some now) (gone : ℕ → Bool) (rest : (c : ℕ) (d : Seen) → (c ≡ id → ⊥) → node_at v c ≡ Some d → node_at w c ≡ (if gone c then None else Some d)) (inner : is_instance e.node.kind ≡ false) (chain : chain_kept now.node ≡ chain_kept e.node) (asks : now.node.asks ≡ true → asks_by g e.node.shape ≡ true) (shape : now.node.shape ≡ e.node.shape)
-    (marks : (c : ℕ) → marked_at w c ≡ marked_at v c) (unmarked : (c : ℕ) → node_at v c ≡ None → IsSome (node_at w c) → marked_at v c ≡ None) (mode : Mode) (last : Last) (up : AskersAreUpTo mode last g v) where
+module _ (v w : ForestView) (g : Grammar) (id : ℕ) (e now : Seen) (here : node_at v id ≡ Some e)
+    (there : node_at w id ≡ Some now) (gone : ℕ → Bool) (rest : (c : ℕ) (d : Seen) → (c ≡ id → ⊥)
+    → node_at v c ≡ Some d → node_at w c ≡ (if gone c then None else Some d))
+    (inner : is_instance e.node.kind ≡ false) (chain : chain_kept now.node ≡ chain_kept e.node)
+    (asks : now.node.asks ≡ true → asks_by g e.node.shape ≡ true) (shape : now.node.shape ≡ e.node.shape)
+    (marks : (c : ℕ) → marked_at w c ≡ marked_at v c) (unmarked : (c : ℕ) → node_at v c ≡ None
+    → IsSome (node_at w c) → marked_at v c ≡ None) (mode : Mode) (last : Last) (up : AskersAreUpTo mode last g v) where
   still_marked : (c : ℕ) → IsSome (marked_at w c) → IsSome (marked_at v c)
   still_marked c marked = subst IsSome (marks c) marked
 

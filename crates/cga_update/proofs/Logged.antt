@@ -40,13 +40,17 @@ pub removed_next : (m : NodeChange) (now after all : List Pairing) (at later : L
     → after ≡ now ++ paired_before (Removed m.symbol m.id) m.primitive []
     → now ++ removed_of at ≡ all → after ++ removed_of later ≡ all
 unfolding removed_of
-removed_next m now after all at later is more before = next removed_of m (paired_before (Removed m.symbol m.id) m.primitive []) now after all at later (pair_split (Removed m.symbol m.id) m.primitive (removed_of later)) is more before
+removed_next m now after all at later is more before = next removed_of m
+    (paired_before (Removed m.symbol m.id) m.primitive []) now after all at later
+    (pair_split (Removed m.symbol m.id) m.primitive (removed_of later)) is more before
 
 pub created_next : (m : NodeChange) (now after all : List Pairing) (at later : List NodeChange) → at ≡ m ∷ later
     → after ≡ now ++ paired_before (Created m.symbol m.id) m.primitive []
     → now ++ created_of at ≡ all → after ++ created_of later ≡ all
 unfolding created_of
-created_next m now after all at later is more before = next created_of m (paired_before (Created m.symbol m.id) m.primitive []) now after all at later (pair_split (Created m.symbol m.id) m.primitive (created_of later)) is more before
+created_next m now after all at later is more before = next created_of m
+    (paired_before (Created m.symbol m.id) m.primitive []) now after all at later
+    (pair_split (Created m.symbol m.id) m.primitive (created_of later)) is more before
 
 pub drawn_next : (m : NodeChange) (now after all : List Drawn) (at later : List NodeChange) → at ≡ m ∷ later
     → after ≡ now ++ drawn_before m m.primitive []

@@ -84,7 +84,8 @@ module _ (old new : Sources) (differ : old.mode ≢ new.mode) (before after : Li
   counted : (n : ℕ) → CountsTouched (with_no_lots new) new [] after n → CountsTouched old new before after n
   counted n h = (h.0, h.1, λ s. (λ a. to_all s ((h.2 s).0 a), λ t. (h.2 s).1 (from_all s t)), h.3)
 
-  module _ (gone come both : Changes) (removed : IsChange old (with_no_lots old) before [] gone) (created : IsChange (with_no_lots new) new [] after come) (gone_is : both.gone ≡ gone.gone) (come_is : both.come ≡ come.come) where
+  module _ (gone come both : Changes) (removed : IsChange old (with_no_lots old) before [] gone)
+      (created : IsChange (with_no_lots new) new [] after come) (gone_is : both.gone ≡ gone.gone) (come_is : both.come ≡ come.come) where
     none_created : removed.come ≡ []
     none_created = none_among removed.come (λ d h. (removed.«record».each_come d h).0)
 

@@ -30,7 +30,9 @@ use Rattle.cga_update.proofs.DueNodes.{due_is, due_of, may_be_on}
 use Rattle.cga_update.proofs.Moves.{chain_at, not_itself, on_node, some_one}
 
 -- S and T are two forests, before and after the children of a node were replaced
-module _ (v w : ForestView) (new : Sources) (id : ℕ) (news : List Node) (e now : Seen) (gone : ℕ → Bool) (replaced : IsReplaced fits (node_at v) (node_at w) id news e now gone) (inner : is_instance e.node.kind ≡ false) (still : is_instance now.node.kind ≡ false) (chain : chain_kept now.node ≡ chain_kept e.node) where
+module _ (v w : ForestView) (new : Sources) (id : ℕ) (news : List Node) (e now : Seen) (gone : ℕ → Bool)
+    (replaced : IsReplaced fits (node_at v) (node_at w) id news e now gone)
+    (inner : is_instance e.node.kind ≡ false) (still : is_instance now.node.kind ≡ false) (chain : chain_kept now.node ≡ chain_kept e.node) where
   -- a node that is there before and after stands where it stood
   same_due : (c : ℕ) (x d : Seen) → node_at v c ≡ Some x → node_at w c ≡ Some d → chains_of w c ≡ chains_of v c
   same_due c x d a b = elim (nat_cases c id) [
@@ -78,18 +80,25 @@ module _ (v w : ForestView) (new : Sources) (id : ℕ) (news : List Node) (e now
       kept_same false f r = some_one (node_at w c) x d (r ∙ ap (λ h. if h then None else Some x) f) b
 
   -- comers: what came since the mark and comes later is on the agenda before
-  module _ (was after : AgendaView) (mode : was.mode ≡ new.mode) (change : Change) (removed : ListsOnlyIn (node_at v) (node_at w) change.removed) (created : ListsOnlyIn (node_at w) (node_at v) change.created) (nobody : Bool) (followed : IsFollowed w id change nobody was after)
-      (comers : (c : ℕ) (d : Seen) → node_at v c ≡ Some d → marked_at w c ≡ None → is_instance d.node.kind ≡ false → IsAfter d → on_of v was c ≡ true) (left : nobody ≡ true → (c : ℕ) (d : Seen) → node_at v c ≡ Some d → IsSome (marked_at w c) → is_instance d.node.kind ≡ false → d.node.asks ≡ true → IsAfter d → on_of v was c ≡ true) where
+  module _ (was after : AgendaView) (mode : was.mode ≡ new.mode) (change : Change)
+      (removed : ListsOnlyIn (node_at v) (node_at w) change.removed)
+      (created : ListsOnlyIn (node_at w) (node_at v) change.created) (nobody : Bool) (followed : IsFollowed w id change nobody was after)
+      (comers : (c : ℕ) (d : Seen) → node_at v c ≡ Some d → marked_at w c ≡ None → is_instance d.node.kind ≡ false
+      → IsAfter d → on_of v was c ≡ true) (left : nobody ≡ true → (c : ℕ) (d : Seen) → node_at v c ≡ Some d
+      → IsSome (marked_at w c) → is_instance d.node.kind ≡ false → d.node.asks ≡ true → IsAfter d → on_of v was c ≡ true) where
     pub later_in : (c : ℕ) (d : Seen) → node_at w c ≡ Some d → is_instance d.node.kind ≡ false
         → stamp_cmp new.mode (chain_kept e.node) (chain_kept d.node) ≡ Less → ComesAfter (chains_of w) was.mode id c
     later_in c d here solid less =
-        (λ i. is_later (mode i) (due_is (node_at w id) now replaced.is still i) (due_is (node_at w c) d here solid i)) ∙ ap (λ y. is_lt (stamp_cmp new.mode y (chain_kept d.node))) chain ∙ ap is_lt less
+        (λ i. is_later (mode i) (due_is (node_at w id) now replaced.is still i)
+        (due_is (node_at w c) d here solid i)) ∙ ap (λ y. is_lt (stamp_cmp new.mode y (chain_kept d.node))) chain ∙ ap is_lt less
 
     later_out : (c : ℕ) (d : Seen) → node_at w c ≡ Some d → is_instance d.node.kind ≡ false
         → ComesAfter (chains_of w) was.mode id c
         → stamp_cmp new.mode (chain_kept e.node) (chain_kept d.node) ≡ Less
     later_out c d here solid late =
-        lt_is (stamp_cmp new.mode (chain_kept e.node) (chain_kept d.node)) (sym (ap (λ y. is_lt (stamp_cmp new.mode y (chain_kept d.node))) chain) ∙ sym (λ i. is_later (mode i) (due_is (node_at w id) now replaced.is still i) (due_is (node_at w c) d here solid i)) ∙ late)
+        lt_is (stamp_cmp new.mode (chain_kept e.node) (chain_kept d.node))
+        (sym (ap (λ y. is_lt (stamp_cmp new.mode y (chain_kept d.node))) chain)
+        ∙ sym (λ i. is_later (mode i) (due_is (node_at w id) now replaced.is still i) (due_is (node_at w c) d here solid i)) ∙ late)
 
     created_on : (c : ℕ) (d : Seen) → node_at v c ≡ None → node_at w c ≡ Some d → is_instance d.node.kind ≡ false
         → on_of w after c ≡ true
@@ -169,7 +178,9 @@ module _ (v w : ForestView) (new : Sources) (id : ℕ) (news : List Node) (e now
     all_after born left c d here h = elim (is_moved.only c d here h) [
       | inl p ↦
           let same : Some (chain_kept p.0.node) ≡ Some (chain_kept d.node) = sym (chain_at v was c p.0 p.1 p.2) ∙ sym (same_due c p.0 d p.1 here) ∙ chain_at w after c d here h in
-          subst (λ k. stamp_cmp new.mode (chain_kept e.node) k ≡ Less) (let z : chain_kept p.0.node ≡ chain_kept d.node = some_one (Some (chain_kept p.0.node)) (chain_kept p.0.node) (chain_kept d.node) refl same in z) (left c p.0 p.1 p.2)
+          subst (λ k. stamp_cmp new.mode (chain_kept e.node) k ≡ Less)
+          (let z : chain_kept p.0.node ≡ chain_kept d.node = some_one (Some (chain_kept p.0.node))
+          (chain_kept p.0.node) (chain_kept d.node) refl same in z) (left c p.0 p.1 p.2)
       | inr r ↦ elim r [ inl none ↦ born c d none here | inr less ↦ less ]
     ]
 

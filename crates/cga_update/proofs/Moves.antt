@@ -46,14 +46,18 @@ pub is_taken : (v : ForestView) (new : Sources) (old rest : AgendaView) (id : �
     × IsTaken (shapes_of new) content (node_at v) id e (on_of v old) (on_of v rest)
 is_taken v new old rest id x mode least =
     let e = due_of (node_at v id) x least.here in
-    let later = λ (c : ℕ) (d : Seen) (here : node_at v c ≡ Some d) (h : on_of v rest c ≡ true). subst (λ m. stamp_cmp m (chain_kept e.0.node) (chain_kept d.node) ≡ Less) mode (subst (λ y. stamp_cmp old.mode y (chain_kept d.node) ≡ Less) (sym e.3) (least.later c (chain_kept d.node) (chain_at v rest c d here h) h)) in (
+    let later = λ (c : ℕ) (d : Seen) (here : node_at v c ≡ Some d) (h : on_of v rest c ≡ true).
+    subst (λ m. stamp_cmp m (chain_kept e.0.node) (chain_kept d.node) ≡ Less) mode
+    (subst (λ y. stamp_cmp old.mode y (chain_kept d.node) ≡ Less) (sym e.3) (least.later c (chain_kept d.node) (chain_at v rest c d here h) h)) in (
       e.0,
       e.2,
       record {
         here = e.1;
         there = least.there;
         left = λ c d here h. (
-          λ same. not_itself (chain_kept e.0.node) new (subst (λ (y : Seen). stamp_cmp new.mode (chain_kept e.0.node) (chain_kept y.node) ≡ Less) (some_one (node_at v c) d e.0 here (ap (node_at v) same ∙ e.1)) (later c d here h)),
+          λ same. not_itself (chain_kept e.0.node) new
+              (subst (λ (y : Seen). stamp_cmp new.mode (chain_kept e.0.node) (chain_kept y.node) ≡ Less)
+              (some_one (node_at v c) d e.0 here (ap (node_at v) same ∙ e.1)) (later c d here h)),
           least.left c h,
           later c d here h,
         );
@@ -81,7 +85,9 @@ pub stay_due : (P : ℕ → Seen → Type 0) (v : ForestView) (new : Sources) (o
     (e : Seen) → IsLeast (chains_of v) old rest id x → node_at v id ≡ Some e → AreDue P new.mode v old
     → (c : ℕ) (d : Seen) → IsLater P v new e c d → on_of v rest c ≡ true
 stay_due P v new old rest id x e least at due c d k = elim (least.stay c (due id c e d at least.there k.here k.one k.solid k.less)) [
-  | inl same ↦ absurd (not_itself (chain_kept e.node) new (subst (λ (y : Seen). stamp_cmp new.mode (chain_kept e.node) (chain_kept y.node) ≡ Less) (some_one (node_at v c) d e k.here (ap (node_at v) same ∙ at)) k.less))
+  | inl same ↦ absurd (not_itself (chain_kept e.node) new
+      (subst (λ (y : Seen). stamp_cmp new.mode (chain_kept e.node) (chain_kept y.node) ≡ Less)
+      (some_one (node_at v c) d e k.here (ap (node_at v) same ∙ at)) k.less))
   | inr on ↦ on
 ]
 

@@ -31,7 +31,9 @@ use Rattle.cga_update.proofs.Idle.{TheEdit, TheState}
 use Rattle.cga_update.proofs.Moves.{remembered_rest, stay_due, taken_at}
 use Rattle.cga_update.proofs.Nodes.{kept_bound}
 
-module _ (was now : Work) (rest : AgendaView) (id : ℕ) (x : Chain) (edit : TheEdit) (s : TheState) (means : Means was edit s) (least : IsLeast (chains_of was.forest) was.agenda rest id x) (less : RememberedView) (forgot : (c : ℕ) → IsRemembered less c → (c ≢ id) × IsRemembered was.remembered c) where
+module _ (was now : Work) (rest : AgendaView) (id : ℕ) (x : Chain) (edit : TheEdit) (s : TheState)
+    (means : Means was edit s) (least : IsLeast (chains_of was.forest) was.agenda rest id x)
+    (less : RememberedView) (forgot : (c : ℕ) → IsRemembered less c → (c ≢ id) × IsRemembered was.remembered c) where
   abbrev passed : Work
   passed = record was { agenda = rest; remembered = less }
 
@@ -64,7 +66,10 @@ module _ (was now : Work) (rest : AgendaView) (id : ℕ) (x : Chain) (edit : The
         × AreQueued (shapes_of new) content (node_at was.forest) (on_of was.forest rest) requeued
         × IsTurnOf (the_edit was.renewal.old.now new) (kept_nodes was.forest) (kept_nodes was.forest) (ranked e.node) s.queued
         requeued false)
-    result = quiet_turns (shapes_of new) content (rules_of was.renewal.old.now) (rules_of new) (is_rules_edit was.renewal.old.now new was.renewal.old_names was.renewal.names) (by_symbol new) (asks_by new.grammar) (node_at was.forest) (length was.forest.slots) id e (on_of was.forest was.agenda) (on_of was.forest rest) (kept_bound was.forest) means.underway quiet s.queued means.queued
+    result = quiet_turns (shapes_of new) content (rules_of was.renewal.old.now) (rules_of new)
+        (is_rules_edit was.renewal.old.now new was.renewal.old_names was.renewal.names) (by_symbol new)
+        (asks_by new.grammar) (node_at was.forest) (length was.forest.slots) id e (on_of was.forest was.agenda)
+        (on_of was.forest rest) (kept_bound was.forest) means.underway quiet s.queued means.queued
 
     abbrev after : TheState
     after = record { nodes = kept_nodes was.forest; queued = result.1.0; gone = s.gone; come = s.come }
@@ -81,9 +86,24 @@ module _ (was now : Work) (rest : AgendaView) (id : ℕ) (x : Chain) (edit : The
     turns : (calls since : ℕ) → since ≡ calls + calls_of turned.expanded
         → Turns edit s after calls since turned.children
     turns calls since ticks =
-        let first : Turns (the_edit was.renewal.old.now new) (record { nodes = kept_nodes was.forest; queued = s.queued; gone = s.gone; come = s.come }) after calls since turned.children =
-        (ranked e.node, false, result.1.2, ([], [], (lists_are_changes {B = Setting}).quiet content (node_at was.forest) (length was.forest.slots), sym (append-nil s.gone), sym (append-nil s.come)), no_children, no_calls calls since ticks) in
-        let here : Turns (the_edit was.renewal.old.now new) s after calls since turned.children = subst (λ (st : TheState). Turns (the_edit was.renewal.old.now new) st after calls since turned.children) (λ i. record { nodes = sym means.nodes i; queued = s.queued; gone = s.gone; come = s.come }) first in
+        let first : Turns (the_edit was.renewal.old.now new) (record { nodes = kept_nodes was.forest; queued = s.queued; gone = s.gone; come = s.come }) after calls since turned.children = (
+          ranked e.node,
+          false,
+          result.1.2,
+          (
+            [],
+            [],
+            (lists_are_changes {B = Setting}).quiet content (node_at was.forest)
+                (length was.forest.slots),
+            sym (append-nil s.gone),
+            sym (append-nil s.come),
+          ),
+          no_children,
+          no_calls calls since ticks,
+        ) in
+        let here : Turns (the_edit was.renewal.old.now new) s after calls since
+        turned.children = subst (λ (st : TheState). Turns (the_edit was.renewal.old.now new) st after calls
+        since turned.children) (λ i. record { nodes = sym means.nodes i; queued = s.queued; gone = s.gone; come = s.come }) first in
         subst (λ (ed : TheEdit). Turns ed s after calls since turned.children) (sym means.edit_is) here
 
     -- ---- what it means then

@@ -59,7 +59,10 @@ node_shape g n i y = refl
 node_kind : (g : Grammar) (n : Node) (i : ℕ) (y : Emitted) → (child_node g n i y).kind ≡ child_kind y
 node_kind g n i y = refl
 
-module _ (v : ForestView) (f : IsForest v) (g : Grammar) (id : ℕ) (e : Seen) (here : node_at v id ≡ Some e) (outcome : Outcome) (again : IsAgain v e outcome) (symbols : (c p : ℕ) (d x : Seen) → node_at v c ≡ Some d → d.parent ≡ Some p → node_at v p ≡ Some x → is_instance d.node.kind ≡ true → d.node.shape.symbol ≡ x.node.shape.symbol) (plain : (c : ℕ) (d : Seen) → node_at v c ≡ Some d → IsPlain d) where
+module _ (v : ForestView) (f : IsForest v) (g : Grammar) (id : ℕ) (e : Seen) (here : node_at v id ≡ Some e)
+    (outcome : Outcome) (again : IsAgain v e outcome) (symbols : (c p : ℕ) (d x : Seen) → node_at v c ≡ Some d
+    → d.parent ≡ Some p → node_at v p ≡ Some x → is_instance d.node.kind ≡ true
+    → d.node.shape.symbol ≡ x.node.shape.symbol) (plain : (c : ℕ) (d : Seen) → node_at v c ≡ Some d → IsPlain d) where
   pub are_again : AreAgain content (node_at v) e (children_after g e.node outcome)
   are_again = record {
     sized = length_from g e.node 0 (emitted outcome) ∙ again.1.sized;
@@ -131,7 +134,9 @@ none_left : {X : Type 0} (xs : List X) → length xs ≡ 0 → xs ≡ []
 none_left [] e = refl
 none_left (x ∷ xs) e = absurd (omega (arith, e))
 
-module _ (v w : ForestView) (f : IsForest v) (g : Grammar) (id : ℕ) (outcome : Outcome) (e now : Seen) (gone : ℕ → Bool) (replaced : IsReplaced fits (node_at v) (node_at w) id (children_after g e.node outcome) e now gone) (kind : now.node.kind ≡ kind_after outcome) where
+module _ (v w : ForestView) (f : IsForest v) (g : Grammar) (id : ℕ) (outcome : Outcome) (e now : Seen)
+    (gone : ℕ → Bool) (replaced : IsReplaced fits (node_at v) (node_at w) id (children_after g e.node outcome) e
+    now gone) (kind : now.node.kind ≡ kind_after outcome) where
   not_instance : (o : Outcome) → is_instance (kind_after o) ≡ false
   not_instance (Ok es) = refl
   not_instance (Err fault) = refl

@@ -94,6 +94,8 @@ refused_anew r other way before stood was calls since e u (Ok n) none = absurd n
 refused_anew r other way before stood was calls since OverBudget u (Err x) is =
     subst (λ y. IsUpdate r before before was was calls since (Err y)) (sym is)
     (refused r before before was was calls since u.update.counted (subst (λ b. since ≤ calls + (b + 1)) way.within u.update.most)
-    (subst (λ b. derive (derivation_of r.new.now) b ≡ None) way.within (subst (λ (s : Bor Sources). derive (derivation_of s.now) other.budget ≡ None) way.to u.update.over)) (record { stands = stood; nodes = λ k. refl }) refl refl)
+    (subst (λ b. derive (derivation_of r.new.now) b ≡ None) way.within
+    (subst (λ (s : Bor Sources). derive (derivation_of s.now) other.budget ≡ None) way.to u.update.over))
+    (record { stands = stood; nodes = λ k. refl }) refl refl)
 refused_anew r other way before stood was calls since NoMemory u (Err x) is =
     given_up_within r before before was was calls since u.update.counted (subst (λ b. since ≤ calls + (b + 1)) way.within (u.update.bounded_within way.mode)) (Err x) is

@@ -82,7 +82,8 @@ pub lots_over : (new : Sources) → NamesDiffer new.lots → RootsExist new.lots
     → derive (derivation_of new) budget ≡ None
 lots_over new names exist budget more =
     let world = ranked_world (shapes_of new) (rules_of new) in
-    let size : length (start world) ≡ length new.lots = length-each {Y = Placed (Ranked Shape) ShapeFault Primitive} (λ n. record { shape = n; kind = Waiting }) world.roots ∙ as_many_roots new new exist in
+    let size : length (start world) ≡ length new.lots = length-each
+    {Y = Placed (Ranked Shape) ShapeFault Primitive} (λ n. record { shape = n; kind = Waiting }) world.roots ∙ as_many_roots new new exist in
     over_none (shapes_of new) (rules_of new) (is_derivation new new names) budget
     ([], start world, refl, (omega (arith, more, size)))
 
@@ -121,7 +122,8 @@ module _ (old new : Sources) (mode : old.mode ≡ new.mode) (olds : NamesDiffer 
       → HasBegun old new m w → HasBegun old new kept.forest w
   begun_before m present w begun =
       let views : ListsAreViews Node Shape Answers Setting ShapeFault Primitive = lists_are_views in
-      let same : kept_nodes m ≡ kept_nodes kept.forest = views.same content (node_at kept.forest) (node_at m) (length kept.forest.slots) (length m.slots) present (kept_bound kept.forest) (λ c x at. kept_bound m c x (present c ∙ at)) in
+      let same : kept_nodes m ≡ kept_nodes kept.forest = views.same content (node_at kept.forest) (node_at m)
+      (length kept.forest.slots) (length m.slots) present (kept_bound kept.forest) (λ c x at. kept_bound m c x (present c ∙ at)) in
       (begun.0, begun.1, subst (λ nodes. IsReady (the_edit old new) nodes begun.0 (length (the_edit old new).new.roots)) same begun.2)
 
   module _ (was w : Work) (budget calls since : ℕ) (between : IsBetween old new was) (bounds : KeepsBounds was w) (at_first : (c : ℕ) → marked_at was.forest c ≡ node_at kept.forest c) where
@@ -171,7 +173,8 @@ module _ (old new : Sources) (mode : old.mode ≡ new.mode) (olds : NamesDiffer 
       exact begun called changes is =
           let before = stands_derived old olds kept.forest stood.forest in
           let derived : IsDerived (rules.derivation_of (shapes_of new) (rules_of old)) before.0 = subst (λ D. IsDerived D before.0) (sym (same_derivation old new mode before.0 before.0)) before.1 in
-          let end = loop_done (shapes_of new) (rules_of old) (rules_of new) (is_rules_edit old new olds names) (kept_nodes kept.forest) begun.2.started (once old olds kept.forest stood.forest) ended.0 budget calls since ended.2 before.0 derived in
+          let end = loop_done (shapes_of new) (rules_of old) (rules_of new) (is_rules_edit old new olds names)
+          (kept_nodes kept.forest) begun.2.started (once old olds kept.forest stood.forest) ended.0 budget calls since ended.2 before.0 derived in
           let worked = end.2.0 in
           let count = end.2.2 in
           let number : k ≡ length worked = omega (arith, called, count) in

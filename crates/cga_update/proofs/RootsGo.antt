@@ -45,7 +45,8 @@ there_but old new first before d stands exist gone come differ loses i lot at ot
     let z = root_is lot r.0 r.1 in
     let shape : root_of lot ≡ Ok t.1.node.shape = r.1 ∙ ap Ok (sym t.4) in
     let symbol : t.1.node.shape.symbol ≡ lot.symbol = ap (λ (s : Shape). s.symbol) (t.4 ∙ sym z.1) in
-    let root : IsRootFor lot (priority_of new.grammar lot.symbol) t.1.node = record { shape = shape; priority = (stands.nodes.city.tops.top t.0 t.1 t.2 t.3).1 ∙ (ap (priority_of old.grammar) symbol ∙ sym stood.1.priority) } in
+    let root : IsRootFor lot (priority_of new.grammar lot.symbol) t.1.node = record
+    { shape = shape; priority = (stands.nodes.city.tops.top t.0 t.1 t.2 t.3).1 ∙ (ap (priority_of old.grammar) symbol ∙ sym stood.1.priority) } in
     let wanted : IsWanted new t.1.node = record { place = i; lot = lot; listed = at; root = root } in
     (t.0, t.1, (loses.wanted t.0 t.1 t.2 t.3 wanted, t.3, root_name lot t.1.node.shape shape))
 

@@ -110,4 +110,6 @@ module _ (v : ForestView) (f : IsForest v) (old new : Sources) where
         ∙ and_assoc (not (is_above T 257 c by)) (exists_at new.mode T d.parent (chain_kept a.node)) (waits_at new.mode d (chain_kept a.node))
         ∙ ap (λ b. not (is_above T 257 c by) && (b && waits_at new.mode d (chain_kept a.node))) (exists_is c d t)
         ∙ ap (λ b. not (is_above T 257 c by) && (world.exists_at (the_world old new) (ranked a.node) (ranked d.node) d.node.kind && b)) (later_is c d t)
-        ∙ ap (λ b. not (is_above T 257 c by) && b) (sym (and_assoc (world.exists_at (the_world old new) (ranked a.node) (ranked d.node) d.node.kind) (not (is_instance d.node.kind)) (is_lt (stamp_cmp new.mode (chain_of (shapes_of new) (ranked a.node)) (chain_of (shapes_of new) (ranked d.node))))))
+        ∙ ap (λ b. not (is_above T 257 c by) && b)
+        (sym (and_assoc (world.exists_at (the_world old new) (ranked a.node) (ranked d.node) d.node.kind)
+        (not (is_instance d.node.kind)) (is_lt (stamp_cmp new.mode (chain_of (shapes_of new) (ranked a.node)) (chain_of (shapes_of new) (ranked d.node))))))

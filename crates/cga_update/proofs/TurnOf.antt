@@ -63,7 +63,8 @@ PlacesAt w now id answers turned = (outcome : Outcome) × HasPlaced w now id ans
 abbrev IsHere : Work → ℕ → Type 0
 IsHere w id = (e : Seen) × (node_at w.forest id ≡ Some e) × (is_instance e.node.kind ≡ false)
 
-module _ (was : Work) (id : ℕ) (told : Said) (facts : Facts) (answers : Answers) (must : Bool) (here : IsHere was id) (said_is : IsToldOf was id told) (facts_are : HasFacts was id facts) (asks : AsksOf was id told answers) where
+module _ (was : Work) (id : ℕ) (told : Said) (facts : Facts) (answers : Answers) (must : Bool)
+    (here : IsHere was id) (said_is : IsToldOf was id told) (facts_are : HasFacts was id facts) (asks : AsksOf was id told answers) where
   module _ (may : MayTurn was) where
     abbrev symbol : List ℕ
     symbol = here.0.node.shape.symbol
@@ -79,7 +80,8 @@ module _ (was : Work) (id : ℕ) (told : Said) (facts : Facts) (answers : Answer
 
     asked_is : answers ≡ kept.asked (new_world (the_edit was.renewal.old.now was.renewal.new.now))
         (kept_nodes was.forest) (ranked here.0.node)
-    asked_is = asks was.renewal.old.now was.renewal.new.now here.0 may.mode here.1 (ap (λ (t : Said). t.noparent) told_is ∙ said_noparent g symbol) (ap (λ (t : Said). t.active) told_is ∙ said_active g symbol)
+    asked_is = asks was.renewal.old.now was.renewal.new.now here.0 may.mode here.1
+        (ap (λ (t : Said). t.noparent) told_is ∙ said_noparent g symbol) (ap (λ (t : Said). t.active) told_is ∙ said_active g symbol)
 
     expanded_is : (now : Work) (turned : Turned) → ChangedOf was id facts answers must → must ≡ true
         → ExpandsAt was now id answers turned → IsTurned was now id turned
@@ -124,7 +126,8 @@ module _ (was : Work) (id : ℕ) (told : Said) (facts : Facts) (answers : Answer
     pub expanded_turn : (now : Work) (r : Result Turned NoMemory) → ChangedOf between id facts answers must
         → must ≡ true → IfOk r (λ turned. ExpandsAt between now id answers turned)
         → IfOk r (λ turned. MayTurn was → IsTurned was now id turned)
-    expanded_turn now (Ok turned) changed so p = λ may. expanded_is may now turned (subst (λ w. ChangedOf w id facts answers must) rest changed) so (subst (λ w. ExpandsAt w now id answers turned) rest p)
+    expanded_turn now (Ok turned) changed so p = λ may. expanded_is may now turned
+        (subst (λ w. ChangedOf w id facts answers must) rest changed) so (subst (λ w. ExpandsAt w now id answers turned) rest p)
     expanded_turn now (Err f) changed so p = p
 
     pub placed_turn : (now : Work) (r : Result Turned NoMemory) → SameOf between id facts answers must → must ≡ false

@@ -61,7 +61,10 @@ use Rattle.cga_update.proofs.Places.{same_node}
 use Rattle.cga_update.proofs.Renewing.{are_again, expansion_count, still_plain, still_priced, still_silent}
 
 -- one turn: was and now are the work before and after it
-module _ (was now : Work) (rest : AgendaView) (id : ℕ) (x : Chain) (turned : Turned) (edit : TheEdit) (s : TheState) (means : Means was edit s) (before : IsForest was.forest) (least : IsLeast (chains_of was.forest) was.agenda rest id x) (less : RememberedView) (forgot : (c : ℕ) → IsRemembered less c → (c ≢ id) × IsRemembered was.remembered c) (turn : IsPlacing (record was { agenda = rest; remembered = less }) now id turned) where
+module _ (was now : Work) (rest : AgendaView) (id : ℕ) (x : Chain) (turned : Turned) (edit : TheEdit)
+    (s : TheState) (means : Means was edit s) (before : IsForest was.forest)
+    (least : IsLeast (chains_of was.forest) was.agenda rest id x) (less : RememberedView) (forgot : (c : ℕ)
+    → IsRemembered less c → (c ≢ id) × IsRemembered was.remembered c) (turn : IsPlacing (record was { agenda = rest; remembered = less }) now id turned) where
   abbrev new : Sources
   new = was.renewal.new.now
 
@@ -97,7 +100,11 @@ module _ (was now : Work) (rest : AgendaView) (id : ℕ) (x : Chain) (turned : T
   after_e = record e { node = with_state (state_after g e.node turn.answers turn.outcome) e.node; children = replaces.1 }
 
   replaced : IsReplaced fits V T id news e after_e gone
-  replaced = subst (λ (d : Seen). IsReplaced fits V T id news d (record d { node = with_state (state_after g e.node turn.answers turn.outcome) d.node; children = replaces.1 }) gone) (some_one (V id) replaces.0 e replaces.3.was turn.here) replaces.3
+  replaced = subst (λ (d : Seen). IsReplaced fits V T id news d
+      (record d {
+        node = with_state (state_after g e.node turn.answers turn.outcome) d.node;
+        children = replaces.1;
+      }) gone) (some_one (V id) replaces.0 e replaces.3.was turn.here) replaces.3
 
   still : is_instance after_e.node.kind ≡ false
   still = (keeps_self new e.node turn.answers turn.outcome inner).is
@@ -151,7 +158,8 @@ module _ (was now : Work) (rest : AgendaView) (id : ℕ) (x : Chain) (turned : T
         let is_w : w.0 ≡ d = some_one (T c) w.0 d w.1 here in
         let up : d.parent ≡ Some id = ap (λ (q : Seen). q.parent) (sym is_w) ∙ w.2 in
         let b = turn.placed.1.forest.present.places.child c id d after_e here up replaced.is in
-        stamp-child new.mode (chain_kept after_e.node) d.index (chain_kept d.node) (turn.placed.1.forest.present.places.chain id after_e replaced.is) (record { lot = b.lot; path = b.path; priorities = (d.node.priority, b.line) })
+        stamp-child new.mode (chain_kept after_e.node) d.index (chain_kept d.node)
+        (turn.placed.1.forest.present.places.chain id after_e replaced.is) (record { lot = b.lot; path = b.path; priorities = (d.node.priority, b.line) })
   ]
 
   symbols : (c b : ℕ) (d y : Seen) → V c ≡ Some d → d.parent ≡ Some b → V b ≡ Some y → is_instance d.node.kind ≡ true
@@ -196,7 +204,8 @@ module _ (was now : Work) (rest : AgendaView) (id : ℕ) (x : Chain) (turned : T
     self_asks = said_asks g e.node.shape;
     are = are_news new e.node turn.outcome inner;
     outcome = told;
-    moved = is_moved was.forest now.forest new id news e after_e gone replaced inner still refl rest now.agenda (least.mode ∙ means.agenda_mode) turn.placed.0 turn.placed.1.removed turn.placed.1.created turn.placed.1.nobody followed comers left;
+    moved = is_moved was.forest now.forest new id news e after_e gone replaced inner still refl rest now.agenda
+        (least.mode ∙ means.agenda_mode) turn.placed.0 turn.placed.1.removed turn.placed.1.created turn.placed.1.nobody followed comers left;
   }
 
   abbrev Result : Type 0
@@ -206,7 +215,11 @@ module _ (was now : Work) (rest : AgendaView) (id : ℕ) (x : Chain) (turned : T
       × IsTurnOf (the_edit was.renewal.old.now new) (kept_nodes was.forest) (kept_nodes now.forest) (ranked e.node) s.queued requeued turned.expanded)
 
   result : Result
-  result = node_turns (shapes_of new) content (rules_of was.renewal.old.now) (rules_of new) (is_rules_edit was.renewal.old.now new was.renewal.old_names was.renewal.names) (by_symbol new) fits (asks_by g) meets_box is_fit (sees_what_meets new) V T (length was.forest.slots) (length now.forest.slots) id news e after_e gone (on_of was.forest was.agenda) (on_of was.forest rest) (on_of now.forest now.agenda) turned.expanded (kept_bound was.forest) (kept_bound now.forest) means.underway node_turn s.queued means.queued
+  result = node_turns (shapes_of new) content (rules_of was.renewal.old.now) (rules_of new)
+      (is_rules_edit was.renewal.old.now new was.renewal.old_names was.renewal.names) (by_symbol new) fits
+      (asks_by g) meets_box is_fit (sees_what_meets new) V T (length was.forest.slots) (length now.forest.slots) id
+      news e after_e gone (on_of was.forest was.agenda) (on_of was.forest rest) (on_of now.forest now.agenda)
+      turned.expanded (kept_bound was.forest) (kept_bound now.forest) means.underway node_turn s.queued means.queued
 
   -- ---- the record
 
@@ -223,7 +236,11 @@ module _ (was now : Work) (rest : AgendaView) (id : ℕ) (x : Chain) (turned : T
   created = lists_lost T V (one_node now.forest turn.placed.1.forest) turn.placed.0.created turn.placed.1.created
 
   change : IsChange (kept_nodes was.forest) (kept_nodes now.forest) removed.0 created.0
-  change = lists_are_changes.turn (shapes_of new) content (rules_of was.renewal.old.now) (rules_of new) (is_rules_edit was.renewal.old.now new was.renewal.old_names was.renewal.names) (by_symbol new) fits (asks_by g) meets_box is_fit V T (length was.forest.slots) (length now.forest.slots) id news e after_e gone (on_of was.forest was.agenda) (on_of was.forest rest) (on_of now.forest now.agenda) turned.expanded (kept_bound was.forest) (kept_bound now.forest) means.underway node_turn removed.0 created.0 removed.1 created.1
+  change = lists_are_changes.turn (shapes_of new) content (rules_of was.renewal.old.now) (rules_of new)
+      (is_rules_edit was.renewal.old.now new was.renewal.old_names was.renewal.names) (by_symbol new) fits
+      (asks_by g) meets_box is_fit V T (length was.forest.slots) (length now.forest.slots) id news e after_e gone
+      (on_of was.forest was.agenda) (on_of was.forest rest) (on_of now.forest now.agenda) turned.expanded
+      (kept_bound was.forest) (kept_bound now.forest) means.underway node_turn removed.0 created.0 removed.1 created.1
 
   abbrev after : TheState
   after = record { nodes = kept_nodes now.forest; queued = result.1.0; gone = s.gone ++ removed.0; come = s.come ++ created.0 }
@@ -231,14 +248,21 @@ module _ (was now : Work) (rest : AgendaView) (id : ℕ) (x : Chain) (turned : T
   children_is : turned.children ≡ children_of (the_edit was.renewal.old.now new) (kept_nodes was.forest) (ranked e.node)
       turned.expanded
   children_is = elim turn.told [
-    | inl h ↦ h.1.count ∙ ap (λ o. length (emitted o)) (h.1.value ∙ ap (expand_of g e.node.shape) turn.asked) ∙ sym (expansion_count was.renewal.old.now new (ranked e.node) (asked (new_world (the_edit was.renewal.old.now new)) (kept_nodes was.forest) (ranked e.node))) ∙ ap (children_of (the_edit was.renewal.old.now new) (kept_nodes was.forest) (ranked e.node)) (sym h.0)
+    | inl h ↦ h.1.count ∙ ap (λ o. length (emitted o)) (h.1.value ∙ ap (expand_of g e.node.shape) turn.asked)
+        ∙ sym (expansion_count was.renewal.old.now new (ranked e.node)
+        (asked (new_world (the_edit was.renewal.old.now new)) (kept_nodes was.forest) (ranked e.node)))
+        ∙ ap (children_of (the_edit was.renewal.old.now new) (kept_nodes was.forest) (ranked e.node)) (sym h.0)
     | inr h ↦ h.1.count ∙ ap (children_of (the_edit was.renewal.old.now new) (kept_nodes was.forest) (ranked e.node)) (sym h.0)
   ]
 
   turns : (calls since : ℕ) → since ≡ calls + calls_of turned.expanded → Turns edit s after calls since turned.children
   turns calls since ticks =
-      let first : Turns (the_edit was.renewal.old.now new) (record { nodes = kept_nodes was.forest; queued = s.queued; gone = s.gone; come = s.come }) after calls since turned.children = (ranked e.node, turned.expanded, result.1.2, (removed.0, created.0, change, refl, refl), children_is, ticks) in
-      let here : Turns (the_edit was.renewal.old.now new) s after calls since turned.children = subst (λ (st : TheState). Turns (the_edit was.renewal.old.now new) st after calls since turned.children) (λ i. record { nodes = sym means.nodes i; queued = s.queued; gone = s.gone; come = s.come }) first in
+      let first : Turns (the_edit was.renewal.old.now new)
+      (record { nodes = kept_nodes was.forest; queued = s.queued; gone = s.gone; come = s.come }) after calls
+      since turned.children = (ranked e.node, turned.expanded, result.1.2, (removed.0, created.0, change, refl, refl), children_is, ticks) in
+      let here : Turns (the_edit was.renewal.old.now new) s after calls since
+      turned.children = subst (λ (st : TheState). Turns (the_edit was.renewal.old.now new) st after calls since
+      turned.children) (λ i. record { nodes = sym means.nodes i; queued = s.queued; gone = s.gone; come = s.come }) first in
       subst (λ (ed : TheEdit). Turns ed s after calls since turned.children) (sym means.edit_is) here
 
   -- ---- what it means then
@@ -268,24 +292,33 @@ module _ (was now : Work) (rest : AgendaView) (id : ℕ) (x : Chain) (turned : T
 
   due_now : ComersAreDue new.mode now.forest now.agenda
   due_now =
-      still_due was.forest now.forest new id news e after_e gone replaced inner still refl rest now.agenda (least.mode ∙ means.agenda_mode) turn.placed.0 turn.placed.1.removed turn.placed.1.created turn.placed.1.nobody followed comers left (HasCome now.forest)
-      (comer_on was.forest now.forest new id news e after_e gone replaced inner still refl rest now.agenda (least.mode ∙ means.agenda_mode) turn.placed.0 turn.placed.1.removed turn.placed.1.created turn.placed.1.nobody followed comers left)
+      still_due was.forest now.forest new id news e after_e gone replaced inner still refl rest now.agenda
+      (least.mode ∙ means.agenda_mode) turn.placed.0 turn.placed.1.removed turn.placed.1.created
+      turn.placed.1.nobody followed comers left (HasCome now.forest)
+      (comer_on was.forest now.forest new id news e after_e gone replaced inner still refl rest now.agenda
+      (least.mode ∙ means.agenda_mode) turn.placed.0 turn.placed.1.removed turn.placed.1.created turn.placed.1.nobody followed comers left)
       born_later (λ c x there on. (taken.1.left c x there on).2)
 
   asker_on : now.all_queued ≡ true → (c : ℕ) (d : Seen) → T c ≡ Some d → AsksStill now.forest c d
       → is_instance d.node.kind ≡ false → IsAfter d → on_of now.forest now.agenda c ≡ true
   asker_on is c d here asks solid less = elim (turn.placed.1.all_queued are_on is) [
     | inl all ↦
-        later_on was.forest now.forest new id news e after_e gone replaced inner still refl rest now.agenda (least.mode ∙ means.agenda_mode) turn.placed.0 turn.placed.1.removed turn.placed.1.created turn.placed.1.nobody followed comers left c d here solid less
+        later_on was.forest now.forest new id news e after_e gone replaced inner still refl rest now.agenda
+        (least.mode ∙ means.agenda_mode) turn.placed.0 turn.placed.1.removed turn.placed.1.created
+        turn.placed.1.nobody followed comers left c d here solid less
         (λ there. askers all c d there asks solid less)
     | inr has ↦
-        let late = later_in was.forest now.forest new id news e after_e gone replaced inner still refl rest now.agenda (least.mode ∙ means.agenda_mode) turn.placed.0 turn.placed.1.removed turn.placed.1.created turn.placed.1.nobody followed comers left c d here solid less in
+        let late = later_in was.forest now.forest new id news e after_e gone replaced inner still refl rest
+        now.agenda (least.mode ∙ means.agenda_mode) turn.placed.0 turn.placed.1.removed turn.placed.1.created
+        turn.placed.1.nobody followed comers left c d here solid less in
         has c (record { seen = d; there = here; marked = asks.0; asks = asks.1 }, late) (may_be_on now.forest c d here solid)
   ]
 
   askers_now : now.all_queued ≡ true → AskersAreDue new.mode now.forest now.agenda
   askers_now is =
-      still_due was.forest now.forest new id news e after_e gone replaced inner still refl rest now.agenda (least.mode ∙ means.agenda_mode) turn.placed.0 turn.placed.1.removed turn.placed.1.created turn.placed.1.nobody followed comers left (AsksStill now.forest)
+      still_due was.forest now.forest new id news e after_e gone replaced inner still refl rest now.agenda
+      (least.mode ∙ means.agenda_mode) turn.placed.0 turn.placed.1.removed turn.placed.1.created
+      turn.placed.1.nobody followed comers left (AsksStill now.forest)
       (asker_on is) born_later (λ c x there on. (taken.1.left c x there on).2)
 
   means_now : Means now edit after
@@ -299,7 +332,9 @@ module _ (was now : Work) (rest : AgendaView) (id : ℕ) (x : Chain) (turned : T
     due = to_new (λ b. ComersAreDue b.now.mode now.forest now.agenda) due_now;
     remembered = turn.placed.1.remembered are_on;
     all_queued = λ is. to_new (λ b. AskersAreDue b.now.mode now.forest now.agenda) (askers_now is);
-    priced = λ is. to_new (λ b. ArePriced b.now.grammar now.forest) (still_priced was.forest now.forest before g id turn.outcome e after_e gone replaced refl turn.here refl refl inner (means.priced (sym turn.placed.1.bounds.priced ∙ is)));
+    priced = λ is. to_new (λ b. ArePriced b.now.grammar now.forest)
+        (still_priced was.forest now.forest before g id turn.outcome e after_e gone replaced refl turn.here refl
+        refl inner (means.priced (sym turn.placed.1.bounds.priced ∙ is)));
     last = to_new (λ b. AskersAreUpTo b.now.mode now.last b.now.grammar now.forest) (subst (λ l. AskersAreUpTo new.mode l g now.forest) (sym turn.placed.1.bounds.last) up_to);
     silent = still_silent was.forest now.forest before g id turn.outcome e after_e gone replaced refl means.silent;
     plain = still_plain was.forest now.forest before g id turn.outcome e after_e gone replaced refl means.plain;

@@ -31,7 +31,9 @@ fn remove_run(
     requires named { AreByName renewal.new.now.lots (length renewal.new.now.lots) named.now.entries }
     ensures symbols { symbols.new ≡ symbols.old }
     ensures lost { OnOk result ((V : View) → HasLost V forest.old removed.old.items → HasLost V forest.new removed.new.items) }
-    ensures wanted { OnOk result ((n : ℕ) → IsRunAt renewal.entry.old.now.lots n run.now → AreWanted renewal.entry.new.now renewal.entry.old.now.lots forest.old n → AreWanted renewal.entry.new.now renewal.entry.old.now.lots forest.new (n + length run.now)) }
+    ensures wanted { OnOk result ((n : ℕ) → IsRunAt renewal.entry.old.now.lots n run.now
+        → AreWanted renewal.entry.new.now renewal.entry.old.now.lots forest.old n → AreWanted renewal.entry.new.now
+        renewal.entry.old.now.lots forest.new (n + length run.now)) }
     ensures loses { OnOk result (Loses renewal.entry.new.now forest.old forest.new) }
     ensures mode { forest.new.mode ≡ forest.old.mode }
 {
@@ -84,7 +86,8 @@ fn add_run(
     requires symbols { symbols.old ≡ renewal.new.now.grammar }
     requires listed { (n : ℕ) × IsRunAt renewal.new.now.lots n run.now }
     ensures gains { OnOk result (Gains renewal.entry.new.now forest.old forest.new) }
-    ensures there { OnOk result ((n : ℕ) → IsRunAt renewal.entry.new.now.lots n run.now → AreThere renewal.entry.new.now forest.old n → AreThere renewal.entry.new.now forest.new (n + length run.now)) }
+    ensures there { OnOk result ((n : ℕ) → IsRunAt renewal.entry.new.now.lots n run.now
+        → AreThere renewal.entry.new.now forest.old n → AreThere renewal.entry.new.now forest.new (n + length run.now)) }
     ensures created { OnOk result ((W : View) → AreWithin W (node_at forest.old) → ListsOnlyIn (node_at forest.old) W created.old.items → ListsOnlyIn (node_at forest.new) W created.new.items) }
     ensures mode { forest.new.mode ≡ forest.old.mode }
     ensures symbols { symbols.new ≡ symbols.old }

@@ -45,5 +45,6 @@ pub padded-eq : (a b : List ℕ) (m n : ℕ) → IsPadded a m → IsPadded b n �
 padded-eq a b m n p q e =
     let r : IsPadded b m = subst (λ k. IsPadded b k) (sym e) q in
     let same : pointwise nat_eq a b ≡ pointwise nat_eq (take m a) (take m b) =
-    both_ways _ _ (λ h. (bytes_decides (take m a) (take m b)).1 (ap (λ l. take m l) ((bytes_decides a b).0 h))) (λ h. (bytes_decides a b).1 (same-padded a b m p r ((bytes_decides (take m a) (take m b)).0 h))) in
+    both_ways _ _ (λ h. (bytes_decides (take m a) (take m b)).1 (ap (λ l. take m l) ((bytes_decides a b).0 h)))
+    (λ h. (bytes_decides a b).1 (same-padded a b m p r ((bytes_decides (take m a) (take m b)).0 h))) in
     same ∙ ap (λ k. pointwise nat_eq (take m a) (take k b)) e

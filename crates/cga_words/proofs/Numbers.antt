@@ -19,7 +19,8 @@ module _ (E : Type 0) (G : List ℕ → Result ℕ E → Type 0) (k most : ℕ) 
       rw fits (ap (λ (n : ℕ). Some n) p.1)
   number_read t None read =
       let p = only t (Err read.0) read.1 in
-      elim (accepts false (parser.Unsigned 0 most) t) as (λ b. (accepts false (parser.Unsigned 0 most) t ≡ b) → ◌≡◌ {A = Option ℕ} None (if b then Some (digits_value 10 (without_leading_plus t)) else None)) [
+      elim (accepts false (parser.Unsigned 0 most) t) as (λ b. (accepts false (parser.Unsigned 0 most) t ≡ b)
+      → ◌≡◌ {A = Option ℕ} None (if b then Some (digits_value 10 (without_leading_plus t)) else None)) [
         | true ↦ λ e. let a = accepts-Accepts false (parser.Unsigned 0 most) t e in absurd (p (a.0, omega (arith, a.3, top)))
         | false ↦ λ e. refl
       ] refl

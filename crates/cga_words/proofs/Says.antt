@@ -65,7 +65,8 @@ both_says first name (b ∷ rest) [] n k low some high e f = absurd (let bad : f
 both_says true name (b ∷ rest) (c ∷ more) n k low some high e f =
     let w = written 0 9 255 n b rest e in
     let v = written 1 200 4294967295 k c more f in
-    says _ (Some (b ∷ rest)) (Some (c ∷ more)) n (Some k) (decimals_first name rest more b c w.no_minus v.no_minus w.in_range v.in_range) (read_decimals n b rest w) low (read_town k c more some high v)
+    says _ (Some (b ∷ rest)) (Some (c ∷ more)) n (Some k) (decimals_first name rest more b c w.no_minus v.no_minus
+    w.in_range v.in_range) (read_decimals n b rest w) low (read_town k c more some high v)
 both_says false name (b ∷ rest) (c ∷ more) n k low some high e f =
     let w = written 0 9 255 n b rest e in
     let v = written 1 200 4294967295 k c more f in

@@ -21,7 +21,10 @@ use Rattle.clap.specs.declared.parser.matches.MatchedArg.{MatchedArg}
 use Rattle.clap.proofs.CallerLemmas.{added_plain, entry_by_id, same_rules_by_id}
 use Rattle.cga_words.specs.Within.{IsFoundIn}
 
-module _ (old : Command) (m : ArgMatches) (p : IsParsedFrom old m) (k : ℕ) (a : Arg) (lt : k < length (args_of old)) (at : (d : Arg) → slice_index_or (args_of old) k d ≡ a) (unique : (j : ℕ) (e : Arg) → j < length (args_of old) → bytes_eq (slice_index_or (args_of old) j e).id.now a.id.now ≡ true → j ≡ k) (own : IsAuto a → ⊥) (named : a.id.now ≡ [] → ⊥) (q : ValueParser) (has : a.value_parser ≡ Some q) where
+module _ (old : Command) (m : ArgMatches) (p : IsParsedFrom old m) (k : ℕ) (a : Arg)
+    (lt : k < length (args_of old)) (at : (d : Arg) → slice_index_or (args_of old) k d ≡ a)
+    (unique : (j : ℕ) (e : Arg) → j < length (args_of old) → bytes_eq (slice_index_or (args_of old) j e).id.now
+    a.id.now ≡ true → j ≡ k) (own : IsAuto a → ⊥) (named : a.id.now ≡ [] → ⊥) (q : ValueParser) (has : a.value_parser ≡ Some q) where
   same_rules : (j : ℕ) (x : Arg) → j < length (args_of p.built) → slice_index_or (args_of p.built) j x ≡ x
       → bytes_eq x.id.now a.id.now ≡ true → SameRules a x
   same_rules j x low is same =
@@ -103,7 +106,12 @@ no_auto_town a id auto = elim auto [
   | inr h ↦ let bad : 4 ≡ 7 = ap length (sym id ∙ h) in absurd (omega (arith, bad))
 ]
 
-module _ (start one two : Command) (a b : Arg) (m : ArgMatches) (first : AddsArg start a one) (second : AddsArg one b two) (args : args_of start ≡ []) (groups : groups_of start ≡ []) (globals : (out-Command start).has_globals ≡ false) (plain_a : IsPlainArg a) (plain_b : IsPlainArg b) (local_a : a.global ≡ false) (local_b : b.global ≡ false) (id_a : a.id.now ≡ codes "decimals") (id_b : b.id.now ≡ codes "town") (parser_a : a.value_parser ≡ Some (parser.Signed (pos 0) (pos 9))) (parser_b : b.value_parser ≡ Some (parser.Signed (pos 1) (pos 200))) (p : IsParsedFrom two m) where
+module _ (start one two : Command) (a b : Arg) (m : ArgMatches) (first : AddsArg start a one)
+    (second : AddsArg one b two) (args : args_of start ≡ []) (groups : groups_of start ≡ [])
+    (globals : (out-Command start).has_globals ≡ false) (plain_a : IsPlainArg a) (plain_b : IsPlainArg b)
+    (local_a : a.global ≡ false) (local_b : b.global ≡ false) (id_a : a.id.now ≡ codes "decimals")
+    (id_b : b.id.now ≡ codes "town") (parser_a : a.value_parser ≡ Some (parser.Signed (pos 0) (pos 9)))
+    (parser_b : b.value_parser ≡ Some (parser.Signed (pos 1) (pos 200))) (p : IsParsedFrom two m) where
   list : args_of two ≡ first.arg ∷ second.arg ∷ []
   list = second.args ∙ ap (λ (l : List Arg). l ++ second.arg ∷ []) (first.args ∙ ap (λ (l : List Arg). l ++ first.arg ∷ []) args)
 
