@@ -61,8 +61,8 @@ by_bytes = slice_cmp nat_cmp
 unfoldable pub bill_of : List Drawn → List (List ℕ × Sums)
 bill_of list = fold (λ lines (d : Drawn). insert_entry by_bytes lines d.symbol (sums_of (of_symbol d.symbol list))) [] list
 
--- the same without saying how the lines are found: they stand by the bytes of their symbols, and each symbol has the sums
--- of its instances, if there are any
+-- the lines are a bill of the list, whatever way they were found: they are in the order of the bytes of their symbols, and
+-- each symbol has the sums of its instances, if there are any
 pub record IsBill (lines : List (List ℕ × Sums)) (list : List Drawn) : Type 0 where
   pub ordered : IsStrictlySortedBy by_bytes (keys_of lines)
   pub sums : (symbol : List ℕ) → lookup (is_at (by_bytes symbol)) lines ≡ sums_or_none (of_symbol symbol list)

@@ -32,7 +32,7 @@ checked g = by_check (check_fault g)
 abbrev pub with_grammar : Sources → Grammar → Changed
 with_grammar s g = and_then (rooted g s.lots) (λ u. Ok (record s { grammar = g }))
 
--- the same, in which each lot has to be accepted
+-- the sources with another grammar, in which each lot has to be accepted
 abbrev pub with_accepted : Sources → Grammar → Changed
 with_accepted s g = and_then (accepted g s.lots) (λ u. Ok (record s { grammar = g }))
 

@@ -89,7 +89,7 @@ EditGives old e (Ok u) new before after = IsDone old e new before after
 EditGives old e (Err NoMemory) new before after = IsGivenUp old new before after
 EditGives old e (Err refused) new before after = IsRefused old e refused new before after
 
--- the same of an edit that hands the former sources out
+-- by what an edit answers that hands the former sources out
 abbrev pub HandsOut : CityState → Edit → Result Sources EditRefused → CityState → ℕ → ℕ → Type 0
 HandsOut old e (Ok former) new before after = (former ≡ old.sources) × IsDone old e new before after
 HandsOut old e (Err refused) new before after = EditGives old e (Err refused) new before after

@@ -101,7 +101,7 @@ impl City {
         }
     }
 
-    /// The same, and gives the former sources, which it doesn't copy: what an undo goes back to.
+    /// Does an edit as `edit` does, and returns the former sources, to which an undo goes back. Copies none of them.
     pub fn hand_out<E: Ledger, T: Ledger>(
         &mut self,
         edit: Edit,

@@ -14,7 +14,7 @@ abbrev pub noted : Pairing → List ℕ → ℕ → Bool → Bool
 noted (Created symbol id) s c was = if is_pair symbol id s c then true else was
 noted (Removed symbol id) s c was = if is_pair symbol id s c then false else was
 
--- the same after all entries
+-- whether node c is one of symbol s after all entries
 unfoldable pub noted_all : List Pairing → List ℕ → ℕ → Bool → Bool
 noted_all [] s c was = was
 noted_all (x ∷ xs) s c was = noted_all xs s c (noted x s c was)

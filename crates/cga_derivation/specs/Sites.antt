@@ -43,7 +43,7 @@ module _ {N A F P : Type 0} (derivation : Derivation N A F P) where
     priorities = fitted (length (derivation.path s.shape)) s.above ++ derivation.priority s.shape ∷ [];
   }
 
-  -- the same derivation over sites
+  -- the derivation, over sites
   abbrev pub world_of : World (Site N) A F P
   world_of = record {
     mode = derivation.mode;

@@ -124,8 +124,7 @@ pub fn expand<E: Ledger>(
     counted(alloc, attributes, entries, shape, answers, expansions)
 }
 
-/// The same. Where the symbol is one of the latest that were found, the time goes by the rules from its first one to its
-/// last one, whatever rules the other symbols have.
+/// What `expand` returns, by the places of the rules of the symbol: rules of other symbols cost no time.
 pub fn expand_by_place<E: Ledger>(
     alloc: Global,
     rules: &RulesByPlace,

@@ -40,7 +40,7 @@ same_sort k l = true
 unfoldable pub fits : Node → Node → Bool
 fits old new = nat_eq old.priority new.priority && (same_sort old.kind new.kind && same_shape old.shape new.shape)
 
--- the same as a fact
+-- that two nodes fit, as a fact
 pub record AreAlike (old new : Node) : Type 0 where
   pub shape : old.shape ≡ new.shape
   pub priority : old.priority ≡ new.priority

@@ -171,7 +171,7 @@ abbrev pub hulls_now : (ℕ → Option Hulls) → Option SlotEntry → Option Hu
 hulls_now H None = None
 hulls_now H (Some e) = Some (over H (own_hulls e.node) e.children.items (length e.children.items))
 
--- the same, or the old hulls with those of a child that grew
+-- the hulls of a slot from its content and its children's hulls, or its old hulls with those of a child that grew
 abbrev pub hulls_next : (ℕ → Option Hulls) → Option SlotEntry → Option Hulls → Option Hulls
 hulls_next H s None = hulls_now H s
 hulls_next H None (Some k) = None

@@ -118,7 +118,7 @@ rolled_entry e = if e.created then None else Some
       former_hulls = None;
     })
 
--- the same of a slot
+-- a slot, settled
 abbrev pub settled : Option SlotEntry → Option SlotEntry
 settled = option_and_then settled_entry
 

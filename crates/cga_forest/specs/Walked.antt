@@ -59,6 +59,6 @@ forest_tree v = record {
 abbrev pub was_marked : ForestView → ℕ → Bool
 was_marked v n = is_some (marked_at v n)
 
--- the same tree, in which only those nodes ask that were there at the mark
+-- the tree of the forest, in which only those nodes ask that were there at the mark
 abbrev pub lasting_tree : ForestView → TreeView
 lasting_tree v = index.lasting_tree (forest_tree v) (was_marked v)

@@ -23,7 +23,7 @@ pub fn cover_place(blocks: &mut Blocks, store: &Store, roots: &MarkedMap, place:
     }
 }
 
-/// The same for places in a row.
+/// Takes the hulls of the roots at places in a row into their blocks and groups.
 fn cover_places(blocks: &mut Blocks, store: &Store, roots: &MarkedMap, from: usize, to: usize)
     ensures here { (place : ℕ) → from ≤ place → place < to → IsCovered blocks.new roots.now.list (λ c. hulls_of (at store.now c)) place }
     ensures kept { StaysHeld blocks.old blocks.new }

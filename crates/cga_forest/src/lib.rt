@@ -168,7 +168,7 @@ impl Forest {
         entry.hulls.hull(&entry.node.shape.scope)
     }
 
-    /// The same for those of them that ask, if any does.
+    /// The least box that holds the boxes of those that ask, of a node and of all below it. None if nobody asks.
     pub fn asking_hull(&self, id: NodeId) -> Option<WorldBox>
         requires here { IsSome (node_at self.now id) }
         ensures least { IfSome result (λ h. IsLeastAsking self.now id h) }

@@ -28,7 +28,7 @@ limited whole places = if nat_le (length whole + length places) most_digits then
 abbrev pub read_of : List ℕ → List ℕ → Result Rat DecimalFault
 read_of whole places = if is_numeral whole then limited whole places else Err NotNumber
 
--- the same of a text and the place of its point: there are digits on both sides of it
+-- a text with a point at this place, read as a number: there are digits on both sides of the point
 abbrev pub read_at : List ℕ → Option ℕ → Result Rat DecimalFault
 read_at text None = read_of text []
 read_at text (Some i) = if is_numeral (drop (i + 1) text) then read_of (take i text) (drop (i + 1) text) else Err NotNumber

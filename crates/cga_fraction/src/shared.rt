@@ -86,8 +86,8 @@ impl<T: Drop> Shared<T> {
         })
     }
 
-    /// The same list, of which no item is copied, in constant time. Takes no memory: NoMemory comes where its owners
-    /// can't be counted any more.
+    /// The list, shared: no item is copied. In constant time. Takes no memory: NoMemory comes if its owners can't be
+    /// counted any more.
     pub fn share(&self) -> Result<Shared<T>, NoMemory>
         ensures { IfOk result (λ shared. shared ≡ self.now) }
     {

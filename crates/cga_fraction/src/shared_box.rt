@@ -52,7 +52,7 @@ impl<T: Drop> SharedBox<T> {
         })
     }
 
-    /// The same value, which isn't copied, in constant time. Takes no memory: NoMemory comes where its owners can't be
+    /// The value, shared: it isn't copied. In constant time. Takes no memory: NoMemory comes if its owners can't be
     /// counted any more.
     pub fn share(&self) -> Result<SharedBox<T>, NoMemory>
         ensures { IfOk result (λ shared. shared ≡ self.now) }

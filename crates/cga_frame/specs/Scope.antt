@@ -46,7 +46,7 @@ far_of s = world_point s.at s.frame s.size
 abbrev pub exists : Scope → Bool
 exists s = point_in_range s.at && point_in_range (far_of s)
 
--- the same as a fact
+-- that all coordinates of the scope's box are in range, as a fact
 pub record Exists (s : Scope) : Type 0 where
   pub at : InRange s.at
   pub far : InRange (far_of s)

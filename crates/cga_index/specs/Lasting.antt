@@ -2,7 +2,7 @@
 use Rattle.std.specs.Prelude.{◌≡◌, ℕ, None, Bool, true, ◌&&◌, if◌then◌else◌}
 use Rattle.cga_index.specs.Tree.{TreeView, InTree, Member}
 
--- the same tree, in which nobody else asks
+-- a tree, in which only the nodes ask that last
 abbrev pub lasting_tree : TreeView → (ℕ → Bool) → TreeView
 lasting_tree t lasts = record t {
   asks = λ n. lasts n && t.asks n;

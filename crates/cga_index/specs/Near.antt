@@ -10,7 +10,7 @@ pub record AsksNear (v : TreeView) (areas : List Box) (id : ℕ) : Type 0 where
   pub asks : v.asks id ≡ true
   pub near : list_any (meets (v.own id)) areas ≡ true
 
--- the same, and its box meets one box more
+-- the node asks, and its box meets one of the areas and one box more
 abbrev pub AsksWithin : TreeView → Box → List Box → ℕ → Type 0
 AsksWithin v around areas id = AsksNear v areas id × (meets (v.own id) around ≡ true)
 

@@ -32,21 +32,21 @@ pub trait HullTree {
         true
     }
 
-    /// The same of the hulls of those that ask.
+    /// Whether the asking hull of a root of this block may touch the area: of those that ask, below the root.
     fn block_asks(&self, _block: usize, _area: &WorldBox) -> bool
         ensures { result ≡ false → IsQuietRun (view self.now) (BLOCK * _block) BLOCK _area.now }
     {
         true
     }
 
-    /// The same of a group, which is `GROUP` places in a row.
+    /// Whether the hull of a root of this group may touch the area. A group is `GROUP` places of the roots in a row.
     fn group_touches(&self, _group: usize, _area: &WorldBox) -> bool
         ensures { result ≡ false → IsFarRun (view self.now) (GROUP * _group) GROUP _area.now }
     {
         true
     }
 
-    /// The same of the hulls of those that ask.
+    /// Whether the asking hull of a root of this group may touch the area.
     fn group_asks(&self, _group: usize, _area: &WorldBox) -> bool
         ensures { result ≡ false → IsQuietRun (view self.now) (GROUP * _group) GROUP _area.now }
     {
@@ -83,7 +83,7 @@ pub trait HullTree {
         requires { InTree (view self.now) node }
         ensures { result ≡ (view self.now).hull node };
 
-    /// The same of those that ask among the node and all below it, where there is one.
+    /// A box that holds the own boxes of those that ask, of the node and of all below it. None if nobody asks.
     fn asking_hull(&self, node: NodeId) -> Option<WorldBox>
         requires { InTree (view self.now) node }
         ensures { result ≡ (view self.now).asking_hull node };
@@ -96,7 +96,7 @@ pub trait HullTree {
         self.hull(node).touches(area)
     }
 
-    /// The same of the hull of those that ask, where there is one.
+    /// Whether the asking hull is there and touches the area: a tree may tell it without the box.
     fn asks_near(&self, node: NodeId, area: &WorldBox) -> bool
         requires { InTree (view self.now) node }
         ensures { result ≡ touches_some ((view self.now).asking_hull node) area.now }

@@ -193,7 +193,7 @@ fn visit_block<H: HullTree, T: Ledger>(
     found
 }
 
-/// The same of the blocks of a group.
+/// What is found once the roots of the blocks of a group, and those below them, are asked too.
 fn visit_group<H: HullTree, T: Ledger>(
     tree: &H,
     group: usize,

@@ -20,7 +20,8 @@ pub fn commands_are_told()
     ensures { (version : Version) (line : Line) → CommandTells version line (command_of version line) }
 {}
 
-/// The same of the lines of a block, of rules and of a whole city.
+/// What the lines of a block say, of rules or of a whole city, is the one thing that they tell. Does nothing: its contract
+/// is the law.
 pub fn blocks_are_told()
     ensures rules { (lines : List Line) → GrammarTells lines (rules_of lines) }
     ensures city { (lines : List Line) → CityTells lines (city_of lines) }

@@ -150,7 +150,7 @@ impl MarkedMap {
         self.steps.clear();
     }
 
-    /// The same where no mark stands.
+    /// Settles if no mark stands.
     pub fn settle_unless(&mut self, marking: bool)
         ensures list { self.new.list ≡ self.old.list }
         ensures former { self.new.former ≡ (if marking then self.old.former else self.old.list) }

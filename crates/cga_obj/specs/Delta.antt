@@ -39,7 +39,7 @@ if_any [] [] all = []
 if_any [] (d ∷ ds) all = all
 if_any (d ∷ ds) come all = all
 
--- the same, and nothing where nothing changed
+-- the text of the changes, and nothing if nothing changed
 unfoldable pub delta_text_of : Changes → List ℕ
 delta_text_of c = if_any c.gone c.come (told_text c)
 
@@ -56,6 +56,6 @@ abbrev pub told_lines : Changes → List (List ℕ)
 told_lines c =
     header_line (length c.gone) (length c.come) ∷ (map (signed_line (codes "- ")) c.gone ++ map (signed_line (codes "+ ")) c.come)
 
--- the same, and none where nothing changed
+-- the lines of the changes, and none if nothing changed
 unfoldable pub delta_lines : Changes → List (List ℕ)
 delta_lines c = if_any c.gone c.come (told_lines c)

@@ -207,7 +207,7 @@ fn push_cube(
     Ok(8)
 }
 
-// The same of a quad.
+// Pushes a quad from its scope.
 fn push_quad(
     text: &mut Text,
     decimals: u8,

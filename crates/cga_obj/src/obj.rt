@@ -46,7 +46,7 @@ fn push_meshed<M: Meshes>(
     Ok(mesh.vertices.len())
 }
 
-// The same, without a mesh where that is known to be a cube or a quad.
+// Pushes an instance, without a mesh where that is known to be a cube or a quad.
 fn push_shown<M: Meshes>(
     alloc: Global,
     meshes: &M,
@@ -197,7 +197,7 @@ pub fn text_by<M: Meshes>(
     Ok(text.into_list())
 }
 
-/// The same with the solids that are drawn.
+/// The OBJ text, with the meshes of the solids themselves.
 #[tactic(auto, unfolding(crate::specs::Lots::obj_text_of))]
 pub fn obj_text(
     alloc: Global,

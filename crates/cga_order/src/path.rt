@@ -90,7 +90,7 @@ impl Path {
     }
 }
 
-/// The same of many numbers, which are copied in one piece.
+/// A path with one number more, for a path of many numbers: these are copied in one piece.
 fn extended_far(alloc: Global, steps: &[u16], last: u16) -> Result<Path, NoMemory>
     ensures { IfOk result (λ path. path ≡ steps.now ++ last ∷ []) }
 {

@@ -140,7 +140,7 @@ fn cmp_places(a: &Chain, i: usize, b: &Chain, j: usize) -> Ordering
     }
 }
 
-/// The same by all ranks, from the deepest up.
+/// The order of two stamps by all their ranks, from the deepest up.
 fn cmp_by_walk(mode: Mode, parting: Parting, a: &Chain, b: &Chain) -> Ordering
     requires parting { IsParting (chain_of a.now) (chain_of b.now) parting }
     requires left { IsWhole (chain_of a.now) }

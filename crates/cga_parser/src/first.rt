@@ -21,7 +21,7 @@ pub(crate) fn with_first<T: Drop>(first: T, rest: List<T>) -> Result<List<T>, No
     Ok(List::from_vec(all))
 }
 
-/// The same, where the others were read, once the sign is taken that closes it.
+/// The list with a member before the others, if these were read, and the sign is taken that closes the list.
 pub(crate) fn closed<T: Drop>(
     tokens: &mut Tokens<'_>,
     end: Sign,
@@ -35,7 +35,7 @@ pub(crate) fn closed<T: Drop>(
     Ok(all)
 }
 
-/// The same list, in no more room than it takes.
+/// The list as it is, in no more room than it takes.
 pub(crate) fn fitted<T>(list: List<T>) -> List<T>
     ensures { result ≡ list }
 {

@@ -33,7 +33,7 @@ fn inner_items(alloc: Global, tokens: &mut Tokens<'_>, depth: u8) -> Result<List
     items(alloc, tokens, depth - 1)
 }
 
-/// The same, or `NIL`.
+/// Items in one more bracket, or `NIL`.
 #[cycle(item)]
 fn inner_body(alloc: Global, tokens: &mut Tokens<'_>, depth: u8) -> Result<List<Item>, Stop<Fault>>
     requires { 0 < depth }

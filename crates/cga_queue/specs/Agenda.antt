@@ -75,7 +75,7 @@ pub record IsLeast (D : Chains) (old new : AgendaView) (id : ℕ) (chain : Chain
   pub later : (c : ℕ) (x : Chain) → D c ≡ Some x → on D new c ≡ true → stamp_cmp old.mode chain x ≡ Less
   pub stay : (c : ℕ) → on D old c ≡ true → (c ≡ id) ⊎ (on D new c ≡ true)
 
--- the same nodes are on both
+-- both agendas have the same nodes
 pub record SameOn (D : Chains) (old new : AgendaView) : Type 0 where
   pub mode : new.mode ≡ old.mode
   pub there : (c : ℕ) → on D old c ≡ true → on D new c ≡ true

@@ -58,7 +58,7 @@ fn is_behind<N: Chained>(mode: Mode, nodes: &N, id: NodeId, next: &Chain) -> boo
     }
 }
 
-/// The same of the last node so far.
+/// Whether a chain comes later than that of the last node so far, or there is none.
 fn is_last<N: Chained>(mode: Mode, nodes: &N, last: Option<NodeId>, next: &Chain) -> bool
     requires { IsWhole (chain_of next.now) }
     ensures { result ≡ is_after mode (chain_at (N.chains nodes.now) last) (chain_of next.now) }

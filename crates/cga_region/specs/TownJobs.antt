@@ -25,7 +25,7 @@ LotJob = Job Lot Shape ShapeFault Primitive
 abbrev pub lots_of : LotJob → List Lot
 lots_of job = job.own ++ job.ring
 
--- the same job over the roots of its lots
+-- a job of lots, over the roots of its lots
 abbrev pub rooted : LotJob → Job Shape Shape ShapeFault Primitive
 rooted job = record { own = roots_of job.own; ring = roots_of job.ring; members = job.members }
 

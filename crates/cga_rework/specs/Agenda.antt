@@ -13,7 +13,7 @@ abbrev pub numbered : {K : Type 0} → List (K × ℕ) → ℕ → Bool
 numbered entries c = list_any (λ entry. nat_eq entry.1 c) entries
 
 module _ {X S A F P : Type 0} (shapes : Shapes S) (content : Content X S A F P) where
-  -- the same, told of ranked shapes
+  -- that the nodes are queued, said of ranked shapes
   abbrev pub AreQueued : View X → (ℕ → Bool) → (Ranked S → Bool) → Type 0
   AreQueued V agenda queued =
       (c : ℕ) (d : Seen X) → V c ≡ Some d → (queued (ranked_of content d.node) ≡ true) ↔ (agenda c ≡ true)

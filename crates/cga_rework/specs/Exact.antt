@@ -44,7 +44,7 @@ pub record IsExactWork {S A B F P : Type 0} (shapes : Shapes S) (old new : Rules
       × (Touched shapes old new before after s → Among s list))
       → length worked ≡ length list
 
--- the same with the record of change: the instances that went and came
+-- an exact rework with the record of change: the instances that were removed and created
 pub record IsExactRework {S A B F P : Type 0} (shapes : Shapes S) (old new : Rules S A B F P)
     (now : List (Node (Ranked S) A F P)) (worked : List (Ranked S)) (gone come : List (Drawn (Ranked S) P)) (before after : List (Placed S F P)) : Type 0 where
   pub work : IsExactWork shapes old new now worked before after

@@ -53,7 +53,7 @@ rules_from derivation setting = record {
   expand = derivation.expand;
 }
 
--- the same rules without lots
+-- the rules, without lots
 abbrev pub no_lots : {S A B F P : Type 0} → Rules S A B F P → Rules S A B F P
 no_lots rules = record rules { roots = [] }
 

@@ -54,7 +54,7 @@ fn lot_of(run: &Shared<Lot>, place: usize) -> Option<&Lot>
     run.as_slice().get(place)
 }
 
-/// The same runs, of which no lot is copied. Takes memory.
+/// The runs, shared: no lot is copied. Takes memory.
 fn shared(alloc: Global, runs: &[Shared<Lot>]) -> Result<Vec<Shared<Lot>>, NoMemory>
     ensures { IfOk result (λ same. same.items ≡ runs.now) }
 {
@@ -165,8 +165,8 @@ impl Lots {
         })
     }
 
-    /// The same list, of which no lot is copied, in constant time. Takes no memory: NoMemory comes where its owners
-    /// can't be counted any more.
+    /// The list, shared: no lot is copied. In constant time. Takes no memory: NoMemory comes if its owners can't be
+    /// counted any more.
     pub fn share(&self) -> Result<Lots, NoMemory>
         ensures { IfOk result (λ shared. shared ≡ self.now) }
     {

@@ -60,7 +60,7 @@ abbrev pub printed : List Piece → List Mark
 printed [] = []
 printed (p ∷ ps) = printed_piece p ++ printed ps
 
--- the same after tokens that come before
+-- the pieces, printed after the tokens before them
 abbrev pub printed_on : List Mark → List Piece → List Mark
 printed_on ms [] = ms
 printed_on ms (p ∷ ps) = printed_on (ms ++ printed_piece p) ps

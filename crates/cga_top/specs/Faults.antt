@@ -9,7 +9,7 @@ abbrev pub FaultsAt : Halt → ℕ → ℕ → Type 0
 FaultsAt WriteFault before now = Rose before now
 FaultsAt NoMemory before now = now ≡ before
 
--- the same of any answer; it is as it was where all went well
+-- the count of faults by any answer: as it was if all went well
 abbrev pub FaultsBy : {A : Type 0} → Result A Halt → ℕ → ℕ → Type 0
 FaultsBy (Ok _) before now = now ≡ before
 FaultsBy (Err halt) before now = FaultsAt halt before now

@@ -65,7 +65,7 @@ abbrev pub Works : Session → Edit → Result (Unit {0}) EditRefused → Sessio
 Works old e (Ok u) new spent spent' = Accepts old e old.city.sources new spent spent'
 Works old e (Err refused) new spent spent' = Refuses old e refused new spent spent'
 
--- the same, with the sources before it
+-- by what an edit answers that returns the sources before it
 abbrev pub Tells : Session → Edit → Result Sources EditRefused → Session → ℕ → ℕ → Type 0
 Tells old e (Ok before) new spent spent' = Accepts old e before new spent spent'
 Tells old e (Err refused) new spent spent' = Refuses old e refused new spent spent'

@@ -42,7 +42,7 @@ line_told reader line = if is_long line then Err LineTooLong else told_of reader
 
 -- ---- blocks
 
--- the same of a line of a block, which tells nothing where it has no tokens
+-- what a line of a block tells: nothing if it has no tokens
 abbrev pub found_of : {A : Type 0} → Reader A → ℕ → Result (List Token) LexFault → Found A
 found_of reader end (Ok []) = Ok None
 found_of reader end (Ok (t ∷ ts)) = as_line (told_of reader end (Ok (t ∷ ts)))
@@ -77,7 +77,7 @@ command_of version line = line_told (command version most_open) line
 abbrev pub rules_of : List Line → Result Grammar BlockFault
 rules_of lines = block_told (block most_open) grammar_of lines
 
--- the same of a block of a whole city
+-- the sources that a block of a whole city says, or its first faulty line
 abbrev pub city_of : List Line → Result Sources BlockFault
 city_of lines = block_told (city most_open) sources_of lines
 

@@ -38,7 +38,7 @@ fn work_edit<E: Ledger, T: Ledger>(
     }
 }
 
-// The same, and gives the sources before it.
+// Does an edit of the session, and returns the sources before it.
 fn do_edit<E: Ledger, T: Ledger>(
     session: &mut Session,
     edit: Edit,

@@ -234,7 +234,7 @@ pub(crate) fn write_print<K: Sink>(
     }
 }
 
-/// The same as one text.
+/// What `print` writes, as one text.
 pub(crate) fn print(session: &Session, name: Option<Name>) -> Result<List<u8>, NoMemory>
     requires { IsReady session.now }
     ensures { (s : State) → IsAt s session.now → IfOk result (Says (printed s name)) }

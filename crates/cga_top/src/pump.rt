@@ -88,7 +88,7 @@ fn reply_as_text<K: Sink, E: Ledger, T: Ledger>(
     }
 }
 
-// The same of a line that asks to print, lot by lot.
+// Replies to a line that asks to print, lot by lot.
 fn reply_by_lots<K: Sink>(
     session: &mut Session,
     out: &mut K,

@@ -75,7 +75,7 @@ fn run_and_tell<S: Source, K: Sink, E: Ledger, T: Ledger>(
     }
 }
 
-// The same with a session of its own.
+// Runs a script and tells its changes, with a session of its own.
 fn told_of<S: Source, K: Sink, E: Ledger, T: Ledger>(
     alloc: Global,
     decimals: Decimals,

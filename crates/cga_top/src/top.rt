@@ -131,7 +131,7 @@ pub fn run_script<W: Talker, S: Source, K: Sink, E: Ledger, T: Ledger>(
     status
 }
 
-// The same, where nothing is told.
+// Runs a script, and tells nothing beside the replies.
 fn run_silent<S: Source, K: Sink, E: Ledger, T: Ledger>(
     alloc: Global,
     decimals: Decimals,
@@ -206,7 +206,7 @@ fn given_in<K: Sink, E: Ledger, T: Ledger>(
     }
 }
 
-// The same with a session of its own.
+// Runs a script with a session of its own.
 pub(crate) fn run_given<K: Sink, E: Ledger, T: Ledger>(
     alloc: Global,
     decimals: Decimals,

@@ -81,7 +81,7 @@ pub record StandAsBefore (sources : Sources) (before after : Kept) : Type 0 wher
   pub stands : Stands sources after
   pub nodes : (c : ℕ) → node_at after.forest c ≡ node_at before.forest c
 
--- the same sources without lots
+-- the sources, without lots
 abbrev pub with_no_lots : Sources → Sources
 with_no_lots sources = record { grammar = sources.grammar; lots = []; mode = sources.mode }
 

@@ -28,7 +28,7 @@ pub fn done(work: Work, kept: &mut Kept, changes: &mut Changes) -> Result<(), No
     told
 }
 
-/// The same, and leaves in the work what was kept before.
+/// Keeps what the work made, and leaves in the work what was kept before.
 fn keep(work: &mut Work, kept: &mut Kept, changes: &mut Changes) -> Result<(), NoMemory>
     requires marked { work.now.forest.marking ≡ true }
     requires logged { IsLogged (marked_at work.now.forest) (node_at work.now.forest) work.now.log.items }

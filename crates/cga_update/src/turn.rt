@@ -132,7 +132,7 @@ fn is_changed(node: &Node, same_setting: bool, answers: &Answers) -> bool
     !same_setting || node.answers != *answers
 }
 
-/// The same of the node of an id.
+/// Whether the node of an id waits, or its inputs differ.
 fn must_expand(forest: &Forest, id: NodeId, same_setting: bool, answers: &Answers) -> bool
     requires here { IsSome (node_at forest.now id) }
     ensures changed { (d : Seen) → node_at forest.now id ≡ Some d → result ≡ true → (d.node.kind ≡ Waiting) ⊎ ((same_setting ≡ true) × (d.node.answers ≡ answers.now) → ⊥) }

@@ -41,7 +41,7 @@ pub fn update<E: Ledger, T: Ledger>(
     }
 }
 
-/// The same from one mode to another: what is kept anew comes of nothing, and the old goes.
+/// Updates from one mode to another: all is derived from nothing, and what was kept is dropped.
 fn change_mode<E: Ledger, T: Ledger>(
     alloc: Global,
     kept: &mut Kept,
@@ -60,7 +60,7 @@ fn change_mode<E: Ledger, T: Ledger>(
     told
 }
 
-/// The same with what stands for the new sources without their lots, which becomes what was kept.
+/// Updates by what stands for the new sources without their lots. What was kept takes its place.
 fn exchange<E: Ledger, T: Ledger>(
     alloc: Global,
     kept: &mut Kept,
