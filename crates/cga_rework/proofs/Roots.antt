@@ -79,6 +79,6 @@ module _ {X S A F P : Type 0} (content : Content X S A F P) where
 pub roots_add_up : {X S A F P : Type 0} → RootsAddUp X S A F P
 roots_add_up = record {
   nothing = λ content V. nothing content V;
-  removal = λ content V U T gone removed r x. removed content V U T gone r removed x;
+  removal = λ content V U T gone h r x. removed content V U T gone r h x;
   addition = λ content V U T gone id x r a. added content V U T gone r id x a;
 }

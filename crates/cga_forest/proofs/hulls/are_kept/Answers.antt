@@ -7,9 +7,9 @@ use Rattle.cga_forest.proofs.hulls.are_kept.Goals as goal
 
 pub returns-then-holds : goal.returns-then-holds
 returns-then-holds c told = (
-  c.in-NodeChange.place,
-  c.in-NodeChange.hulls,
-  c.in-NodeChange.is,
+  c.in-Changed.place,
+  c.in-Changed.hulls,
+  c.in-Changed.is,
   sym c.holds.ensures ∙ c.if-holds.true,
   λ e is.
       let z : Some c.in-Some.entry.now ≡ Some e = c.in-Some.ensures ∙ is in
