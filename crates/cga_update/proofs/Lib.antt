@@ -10,7 +10,7 @@ mod DueNodes
 mod Following
 mod Bounding
 mod Moves
-mod NodeChange
+mod Moved
 mod Children
 mod Counting
 mod Seen
