@@ -2,6 +2,7 @@
 import re
 
 from .habits import habit
+from .numerals import on_exponent
 from .script import COMMANDS, COMMANDS_2, RESERVED, tokens
 
 OF_HABITS = ("Unexpected", "BadByte", "UnknownSymbol", "UnknownName")
@@ -95,6 +96,8 @@ def advice(cause, words, place):
     if cause in ("UnknownSymbol", "BadProbability"):
         is_first = cause == "UnknownSymbol" and place.line.split()[:1] == ["put"] and not place.is_inside
         return of_names(words[-1:], place) or ("put that rule first, or both in one block" if is_first else "")
+    if cause == "BadNumber":
+        return on_exponent(place.rest.split(" ")[0])
     if cause == "BadByte":
         is_file = re.search(r'\bI\(\s*"\w*$', place.line[: len(place.line) - len(place.rest)])
         return (

@@ -27,8 +27,10 @@ def number_in(low, high, kind=float):
         except ValueError:
             number = None
         if number is None or not low <= number <= high:
+            has_exponent = kind is int and re.search(r"\de[-+]?\d", word, re.IGNORECASE)
+            more = " in digits, without an exponent" if has_exponent else ""
             raise WrongValue(
-                f"`{told(word)}` isn't a{' whole' * (kind is int)} number from {grouped(low)} to {grouped(high)}"
+                f"`{told(word)}` isn't a{' whole' * (kind is int)} number from {grouped(low)} to {grouped(high)}{more}"
             )
         return number
 

@@ -114,7 +114,7 @@ def look(path, name, entry):
 
 
 def is_length(part):
-    return isinstance(part, (int, float)) and not isinstance(part, bool) and 0 < part < float("inf")
+    return isinstance(part, (int, float)) and not isinstance(part, bool) and 0 < part < 1e30
 
 
 def colour_by_bytes(symbol):

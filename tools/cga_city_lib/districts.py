@@ -13,6 +13,8 @@ from .files import alone, can_write, write
 from .head import head_of
 from .jobs import Cut, Program, cut_again, leftovers, tiles_to_make, todo
 from .map_facts import MapFacts
+from .number_words import check_digits
+from .numerals import numeral
 from .of_plan import line_of, of_others, take_others_away
 from .plan import Options, digest, read_plan
 from .program import MOST_LOTS, is_proved, program_word, ready
@@ -235,10 +237,12 @@ def is_length(word):
 
 
 def length(word):
-    """A length as it is spelt, which is read exactly."""
-    if not is_length(word):
+    """A length from 0 on, exactly, as a script would spell it."""
+    check_digits(word, word)
+    text = numeral(word)
+    if text is None or not is_length(text):
         raise WrongValue(f"`{told(word)}` isn't a number from 0 on that scripts can have")
-    return word
+    return text
 
 
 def add_folder(known):

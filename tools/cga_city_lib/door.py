@@ -11,7 +11,8 @@ from .call import Namespace, Refused, Words, WrongValue, said
 from .given import Given, given
 from .instances import PLACES, Lots, from_told, printed
 from .live import tells_changes
-from .numerals import DIGITS, is_too_long, numeral
+from .number_words import check_digits
+from .numerals import numeral
 from .obj import Town
 from .obj_instances import from_obj, from_town
 from .pipe import Ended
@@ -51,8 +52,7 @@ def setting(word: str) -> str:
     """NAME=NUMBER as a line `attr` has it."""
     name, _, value = word.partition("=")
     number = numeral(value)
-    if is_too_long(value):
-        raise WrongValue(f"`{shown(word)}` is out of range: a script's numbers have {DIGITS} digits at most")
+    check_digits(word, value)
     if not re.fullmatch(r"[A-Za-z_]\w*", name, re.ASCII) or number is None:
         raise WrongValue(f"`{shown(word)}` isn't NAME=NUMBER, such as storey=3 or storey=7/2")
     return f"{name} = {number}"

@@ -1,4 +1,5 @@
 """Values of words that several tools for drawings and tables take; a wrong one is a ValueError."""
+import math
 from typing import Tuple
 
 from .call import WrongValue
@@ -13,8 +14,10 @@ def line(word: str) -> Tuple[Point, Point]:
         numbers = [float(part) for part in word.split(",")]
     except ValueError:
         numbers = []
-    if len(numbers) != 4 or not all(abs(number) < FAR for number in numbers):
+    if len(numbers) != 4 or any(map(math.isnan, numbers)):
         raise WrongValue(f"`{told(word)}` isn't X,Z,X,Z, such as 0,4,20,4: two points as four numbers")
+    if not all(abs(number) < FAR for number in numbers):
+        raise WrongValue(f"`{told(word)}` lies too far out: each of its numbers is below {FAR:,.0f}")
     if numbers[:2] == numbers[2:]:
         raise WrongValue(f"`{told(word)}` is a line of no length: give two points that differ")
     return (numbers[0], numbers[1]), (numbers[2], numbers[3])

@@ -95,8 +95,10 @@ def parsed(path: str) -> Any:
         raise Refused(f"{path}: isn't JSON: {fault.msg}, line {fault.lineno}, column {fault.colno}") from None
     except RecursionError:
         raise Refused(f"{path}: brackets are nested too deeply for GeoJSON") from None
-    except ValueError:
-        raise Refused(f"{path}: a number has thousands of digits: export the map anew") from None
+    except (ValueError, ArithmeticError):
+        raise Refused(
+            f"{path}: a number has thousands of digits, or too large an exponent: export the map again"
+        ) from None
 
 
 def features_of(data: Any, path: str) -> List[Any]:

@@ -11,7 +11,7 @@ Ring = List[Position]
 # a ring outside, and the rings of its holes
 Polygon = namedtuple("Polygon", "ring holes")
 KINDS = "Point MultiPoint LineString MultiLineString Polygon MultiPolygon GeometryCollection".split()
-DEEPEST = 8
+DEEPEST, NOWHERE = 8, 10**9
 
 
 def is_number(part: Any) -> bool:
@@ -21,7 +21,7 @@ def is_number(part: Any) -> bool:
 def position(at: Any) -> Position:
     if not (isinstance(at, list) and len(at) >= 2 and all(map(is_number, at[:2]))):
         raise Refused("a position isn't a list of two numbers")
-    if not all(abs(part) < 10**9 for part in at[:2]):
+    if not all(abs(part) < NOWHERE for part in at[:2]):
         raise Refused(f"a position is ({told(at[0])}, {told(at[1])}), which lies nowhere on a map")
     return Decimal(at[0]), Decimal(at[1])
 

@@ -4,6 +4,7 @@ It is JSON, in the coordinates of the script. No shape of the town is made of it
 from it the names and properties that the map has.
 """
 import json
+import math
 from collections import namedtuple
 from typing import Any, Dict, List, Tuple
 
@@ -45,8 +46,9 @@ def plain(value: Any) -> Any:
     if value is None or isinstance(value, (bool, int, str)):
         return value
     if isinstance(value, (list, dict)):
-        return json.loads(json.dumps(value, default=float))
-    return float(value)
+        return json.loads(json.dumps(value, default=plain))
+    number = float(value)
+    return number if math.isfinite(number) else str(value)
 
 
 def data_of(ground: Ground) -> Dict[str, Any]:
@@ -79,12 +81,20 @@ def write_ground(path: str, ground: Ground) -> None:
         file.write(text + "\n")
 
 
+def real(value: Any) -> float:
+    number = float(value)
+    if not math.isfinite(number):
+        raise ValueError
+    return number
+
+
 def points_of(line: Any) -> List[Point]:
-    return [(float(x), float(z)) for x, z in line]
+    return [(real(x), real(z)) for x, z in line]
 
 
 def ground_of(data: Any) -> Ground:
     place = Place(**{**data["place"], "origin": tuple(map(str, data["place"]["origin"]))})
+    list(map(real, (*place.origin, place.angle)))
     plots = [
         Plot(
             **{
@@ -96,7 +106,7 @@ def ground_of(data: Any) -> Ground:
         )
         for one in data["plots"]
     ]
-    ways = [Way(**{**one, "line": points_of(one["line"]), "width": float(one["width"])}) for one in data["ways"]]
+    ways = [Way(**{**one, "line": points_of(one["line"]), "width": real(one["width"])}) for one in data["ways"]]
     areas = [
         Area(**{**one, "ring": points_of(one["ring"]), "holes": [points_of(hole) for hole in one["holes"]]})
         for one in data["areas"]
@@ -114,5 +124,5 @@ def read_ground(path: str) -> Ground:
                 f"{path}: says that it is {told(data['format'])}, and {FORMAT} is taken: make it by tools/parcels --ground"
             )
         return ground_of(data)
-    except (ValueError, KeyError, TypeError, AttributeError, RecursionError):
+    except (ValueError, KeyError, TypeError, AttributeError, RecursionError, OverflowError):
         raise Refused(f"{path}: is no ground as tools/parcels --ground writes it: make it again") from None

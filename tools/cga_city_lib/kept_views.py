@@ -7,6 +7,8 @@ import os
 import re
 from typing import Any, Dict, Iterator, List, Optional, Tuple
 
+from .numerals import on_exponent
+
 NUMBER = r"-?\d+(?:\.\d+)?"
 CAMERA = re.compile(rf"# camera (\w{{1,32}})((?: {NUMBER}){{6}})\s*", re.ASCII)
 SUN = re.compile(rf"# sun ({NUMBER}) ({NUMBER}) (\d{{4}}-\d\d-\d\dT\d\d:\d\d(?:Z|[+-]\d\d:\d\d))\s*", re.ASCII)
@@ -34,7 +36,7 @@ def unread(lines: List[str]) -> Iterator[Tuple[int, str]]:
     for number, line in enumerate(lines, 1):
         begun: Optional[Any] = BEGUN.match(line)
         if begun and not CAMERA.fullmatch(line) and not sun([line]):
-            yield number, HELP[begun.group(1)]
+            yield number, on_exponent(line) or HELP[begun.group(1)]
 
 
 def head_of(lines: List[str]) -> Dict[str, Any]:

@@ -4,7 +4,9 @@ from typing import Tuple
 
 from .call import Words, WrongValue, number_in
 from .fitting import FITS
+from .geometry import NOWHERE
 from .lot_list import COMPASS
+from .number_words import check_digits
 from .numerals import numeral
 from .program import LAUNCHER, program_word
 from .reference_system import METRES
@@ -13,6 +15,7 @@ from .strangers_text import told
 
 def pair(word: str) -> Tuple[str, str]:
     name, _, text = word.partition("=")
+    check_digits(word, text)
     if not name.isidentifier() or numeral(text) is None:
         raise WrongValue(f"`{told(word)}` isn't NAME=NUMBER, such as floors=3")
     return name, numeral(text)
@@ -27,6 +30,8 @@ def point(word: str) -> Tuple[Decimal, Decimal]:
         raise WrongValue(
             f"`{told(word)}` isn't X,Y, such as 8.54,47.37: a longitude and a latitude, or an east and a north"
         )
+    if not all(abs(number) < NOWHERE for number in numbers):
+        raise WrongValue(f"`{told(word)}` lies nowhere on a map: each of its numbers is below {NOWHERE:,}")
     return numbers[0], numbers[1]
 
 

@@ -4,6 +4,8 @@ from decimal import Decimal, InvalidOperation
 from fractions import Fraction
 
 DIGITS = 18
+EXPONENT = re.compile(r"(?<!\w)(\d+\.?\d*e[-+]?\d+)(?=r?(?!\w))", re.ASCII | re.IGNORECASE)
+SPELT = re.compile(r"[-+]?(\d+\.?\d*|\.\d+)(e[-+]?\d+)?|-?\d+/\d+", re.ASCII | re.IGNORECASE)
 
 
 def numeral(value):
@@ -17,9 +19,17 @@ def numeral(value):
 
 
 def is_too_long(text):
-    """Whether it spells a number, and one with more digits than a script takes."""
-    is_number = re.fullmatch(r"-?\d+(\.\d+|/\d+)?", text, re.ASCII) is not None
-    return is_number and numeral(text) is None and sum(map(str.isdigit, text)) > DIGITS
+    """Whether it spells a number, and one with more digits than a script takes, those of its exponent written out."""
+    is_number = SPELT.fullmatch(text) is not None and numeral(text) is None
+    return is_number and ("/" not in text or sum(map(str.isdigit, text)) > DIGITS)
+
+
+def on_exponent(text: str) -> str:
+    """What is said of the first number with an exponent, where none may have one; nothing where none has."""
+    found = EXPONENT.search(text)
+    written = decimal(found[1]) if found else None
+    more = f": write {written}" if written else f", and a number has {DIGITS} digits at most"
+    return f"`{found[1]}` has an exponent{more}" if found else ""
 
 
 def decimal(text):
@@ -27,6 +37,8 @@ def decimal(text):
         number = Decimal(text) if text.isascii() and "_" not in text else None
     except InvalidOperation:
         number = None
+    if number is not None and number.is_zero():
+        return "0"
     if number is None or not number.is_finite() or not -DIGITS < number.adjusted() < DIGITS:
         return None
     written = plain(number)

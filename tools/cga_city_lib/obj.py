@@ -1,11 +1,14 @@
 """The town in what a run printed: its lots, their solids, and the symbols that drew these."""
+from decimal import Decimal, InvalidOperation
 from typing import Dict, Iterable, List, NamedTuple, NoReturn, Optional, Tuple
 
 from .call import Refused
+from .numerals import plain
 from .progress import counted
 from .strangers_text import told
 
 PRINTED = 10**19  # each coordinate of the program is nearer to 0
+MOST_PLACES = 20  # decimals of a coordinate; of one with an exponent the others are rounded
 Texts = Tuple[str, ...]
 Point = Tuple[float, ...]
 
@@ -35,6 +38,8 @@ class Town:
                 solids = self.lots.setdefault(" ".join(words[1:]), [])
             elif words[0] == "v":
                 text = tuple(words[1:4])
+                if "e" in line or "E" in line:
+                    text = tuple(map(spelt, text))
                 self.points.append(point_of(text, farthest) or wrong(self.path, number, line, no_vertex(farthest)))
                 self.texts.append(text)
             else:
@@ -85,6 +90,15 @@ class Town:
 
 def no_vertex(farthest: int) -> str:
     return f"a vertex has three numbers below {farthest:,}"
+
+
+def spelt(word: str) -> str:
+    """A coordinate without an exponent; as it is where it is none, or lies farther out than all that are taken."""
+    try:
+        number = Decimal(word)
+    except InvalidOperation:
+        return word
+    return plain(Decimal(f"{number:.{MOST_PLACES}f}")) if number.is_finite() and number.adjusted() < 40 else word
 
 
 def point_of(text: Texts, farthest: int) -> Point:

@@ -5,12 +5,11 @@ from typing import Dict, List, NamedTuple, Optional, Tuple
 from .call import Refused
 from .forms import Faces, Form
 from .instances import Corner, Instance, Lots
-from .obj import Solid, Town
+from .obj import MOST_PLACES, Solid, Town
 from .progress import counted
 
 RUN = "# cga_city obj\n"
 FARTHEST = 10**12
-MOST_PLACES = 20
 Key = Tuple[object, ...]
 
 

@@ -20,6 +20,7 @@ TAKEN = {
 TRIANGLES, STRIP, FAN = 4, 5, 6
 SAME = [1.0, 0.0, 0.0, 0.0, 0.0, 1.0, 0.0, 0.0, 0.0, 0.0, 1.0, 0.0, 0.0, 0.0, 0.0, 1.0]
 DEEPEST = 100  # nodes below each other
+FAR = 1e30
 
 
 class Wrong(Exception):
@@ -163,7 +164,9 @@ def triangles(numbers: Sequence[int], mode: int) -> List[Tuple[int, ...]]:
 def part_of(file: File, primitive: Dict[str, Any], matrix: Matrix) -> Part:
     attributes = primitive["attributes"]
     read = {name: file.values(attributes[name]) for name in ("POSITION", "NORMAL", "TEXCOORD_0") if name in attributes}
-    points = read.get("POSITION", [])
+    points = moved(matrix, read.get("POSITION", []))
+    if not all(abs(part) < FAR for point in points for part in point):
+        raise Wrong("has a corner that lies nowhere: apply the transforms of its nodes, and export it again")
     numbers = [int(at) for at, in file.values(primitive["indices"])] if "indices" in primitive else range(len(points))
     faces = triangles(numbers, primitive.get("mode", TRIANGLES))
     if any(at >= len(points) for face in faces for at in face):
@@ -173,7 +176,7 @@ def part_of(file: File, primitive: Dict[str, Any], matrix: Matrix) -> Part:
     maps = [(u, v) for u, v in read.get("TEXCOORD_0", [])]
     number = primitive.get("material")
     surface = file.surfaces.setdefault(number, surface_of(file, number))
-    return Part(surface, moved(matrix, points), faces, normals, maps)
+    return Part(surface, points, faces, normals, maps)
 
 
 def surface_of(file: File, number: Optional[int]) -> Surface:
@@ -205,7 +208,7 @@ def read_glb(path: Path) -> OwnMesh:
         ]
     except Wrong as fault:
         raise Refused(f"{path} {fault}") from None
-    except (ValueError, KeyError, IndexError, TypeError, struct.error):
+    except (ValueError, KeyError, IndexError, TypeError, OverflowError, struct.error):
         raise Refused(f"{path} isn't a sound glTF file: something that it names isn't there") from None
     if not any(part.faces for part in parts):
         raise Refused(f"{path}: its scene has no triangle")

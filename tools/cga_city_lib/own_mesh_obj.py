@@ -40,7 +40,7 @@ class Reader:
             if word == "v":
                 self.points.append(three(rest))
             elif word == "vt":
-                self.maps.append((float(rest[0]), 1 - float(rest[1]) if rest[1:] else 0.0))
+                self.maps.append((real(rest[0]), 1 - real(rest[1]) if rest[1:] else 0.0))
             elif word == "vn":
                 self.normals.append(three(rest))
             elif word == "f":
@@ -97,10 +97,15 @@ def numbered(text: str, count: int) -> int:
 
 def three(words: Sequence[str]) -> Point:
     """Three numbers that a file may have, none of them without an end."""
-    x, y, z = map(float, words[:3])
-    if not all(abs(part) < 1e30 for part in (x, y, z)):
-        raise ValueError
+    x, y, z = map(real, words[:3])
     return x, y, z
+
+
+def real(text: str) -> float:
+    number = float(text)
+    if not abs(number) < 1e30:
+        raise ValueError
+    return number
 
 
 def joined(lines: Sequence[str]) -> Iterator[Tuple[int, str]]:

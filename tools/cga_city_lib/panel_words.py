@@ -6,6 +6,8 @@
 import re
 from typing import Any, Dict, Iterator, List, Tuple
 
+from .numerals import on_exponent
+
 NUMBER = r"-?\d+(?:\.\d+|/\d+)?"
 SLIDER = re.compile(r"# slider (\w+) (-?\d+(?:\.\d+)?)\.\.(-?\d+(?:\.\d+)?)(?: step (\d+(?:\.\d+)?))?\s*", re.ASCII)
 CHOICE = re.compile(rf"# choice (\w+)((?: {NUMBER})+)\s*", re.ASCII)
@@ -47,7 +49,7 @@ def unread(lines: List[str]) -> Iterator[Tuple[int, str]]:
     for number, line in enumerate(lines, 1):
         begun = BEGUN.match(line)
         if begun and not slider_of(line)[0] and not CHOICE.fullmatch(line):
-            yield number, HELP[begun.group(1)]
+            yield number, on_exponent(line) or HELP[begun.group(1)]
 
 
 def with_values(lines: List[str], values: Dict[str, str]) -> List[str]:

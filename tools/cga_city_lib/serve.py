@@ -8,7 +8,7 @@ from .page import page
 from .pipe import Ended
 
 NAME = re.compile(r"[A-Za-z_]\w{0,31}", re.ASCII)
-VALUE = re.compile(r"-?\d{1,15}(\.\d{1,15}|/\d{1,15})?", re.ASCII)
+VALUE = re.compile(r"-?\d{1,18}(\.\d{1,18}|/\d{1,18})?", re.ASCII)
 MOST = 10000  # bytes of values that are set at once
 
 

@@ -1,11 +1,12 @@
 """Where a town is set in another program: what is taken off its coordinates, and how long its unit is."""
 import math
 from collections import namedtuple
-from decimal import Decimal, InvalidOperation
+from decimal import Decimal
 
 from .call import Refused, WrongValue
 from .instances import box_of
-from .numerals import plain
+from .number_words import check_digits
+from .numerals import decimal, plain
 from .strangers_text import told as told_word
 
 FAR = 10_000  # farther out, floats of 32 bits are apart by more than a thousandth
@@ -20,13 +21,11 @@ def add_words(known):
 
 
 def number(text):
-    try:
-        value = Decimal(text)
-    except InvalidOperation:
-        value = Decimal("nan")
-    if not value.is_finite():
+    check_digits(text, text)
+    value = decimal(text)
+    if value is None:
         raise WrongValue(f"`{told_word(text)}` isn't a number: --offset takes three, and --metres one")
-    return value
+    return Decimal(value)
 
 
 def setting_of(lots, words):

@@ -8,6 +8,7 @@ from .call import Refused, WrongValue
 from .instances import Lots
 from .kept_instances import KeptInstances
 from .live import Live
+from .number_words import check_digits
 from .numerals import numeral
 from .pipe import Ended
 from .replies import counts_of, is_refused
@@ -29,6 +30,7 @@ def values_word(word: str) -> Values:
     texts, found = rest.split(","), re.fullmatch(r"(.+?)\.\.(.+)/(\d+)", rest)
     if found:
         texts = [found.group(1), found.group(2)]
+    check_digits(word, *texts)
     numbers = [Fraction(text) for text in texts if numeral(text) is not None]
     if not re.fullmatch(r"[A-Za-z_]\w*", name, re.ASCII) or len(numbers) < len(texts):
         raise WrongValue(f"`{told(word)}` isn't {FORM}")

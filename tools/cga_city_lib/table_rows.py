@@ -6,6 +6,7 @@ from typing import Callable, Dict, Optional, Tuple
 from .call import WrongValue
 from .forms import Form
 from .measure import Measure, Measured
+from .number_words import check_digits
 from .numerals import decimal, rounded
 from .progress import counted
 from .strangers_text import told
@@ -21,6 +22,7 @@ KEYS: Dict[str, Callable[[str, str], Key]] = {
 
 
 def fraction_word(word: str) -> Fraction:
+    check_digits(word, word)
     if decimal(word) is None:
         raise WrongValue(f"`{told(word)}` isn't a number such as 3 or 2.8")
     return Fraction(word)

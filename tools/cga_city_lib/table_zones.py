@@ -3,6 +3,7 @@ from fractions import Fraction
 from typing import Any, Dict, Iterator, List, NamedTuple, Optional, Sequence, Tuple
 
 from .call import Refused, WrongValue
+from .number_words import check_digits
 from .numerals import decimal
 from .strangers_text import told
 from .table_rows import shown
@@ -23,6 +24,7 @@ def limit_word(word: str) -> Tuple[str, str, Fraction]:
     """WORD=VALUE:H, as zone=W2:11; H alone is a limit of all lots."""
     name, sign, rest = word.partition("=")
     value, _, height = (rest if sign else word).rpartition(":")
+    check_digits(word, height)
     if decimal(height) is None or bool(sign) != bool(name and value):
         raise WrongValue(
             f"`{told(word)}` is neither a height, such as 11, nor PROPERTY=VALUE:HEIGHT, such as zone=W2:11"

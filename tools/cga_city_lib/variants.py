@@ -6,6 +6,7 @@ the symbol's solids is floor area, and `# floor SYMBOL=3` counts it once for eac
 import re
 from typing import Any, Dict, Iterator, List, Tuple
 
+from .numerals import on_exponent
 from .panel_words import NUMBER
 
 VARIANT = re.compile(rf"# variant (\w{{1,32}})((?: [A-Za-z_]\w*={NUMBER})+)\s*", re.ASCII)
@@ -40,7 +41,7 @@ def unread(lines: List[str]) -> Iterator[Tuple[int, str]]:
     """The number of each line that begins so and can't be read, and what it should be."""
     for number, line in enumerate(lines, 1):
         if BEGUN.match(line) and not VARIANT.fullmatch(line) and not FLOOR.fullmatch(line):
-            yield number, HELP["variant" if "variant" in line.split("=")[0] else "floor"]
+            yield number, on_exponent(line) or HELP["variant" if "variant" in line.split("=")[0] else "floor"]
 
 
 def line_of(name: str, words: str) -> str:

@@ -3,7 +3,7 @@ from decimal import Decimal, InvalidOperation
 from pathlib import Path
 from typing import Dict, Iterator, List, NamedTuple, Tuple
 
-from ..numerals import decimal
+from ..numerals import DIGITS, decimal
 from .lost import Lost
 from .names import Names
 
@@ -65,9 +65,10 @@ def mesh_lines(path: Path) -> Iterator[str]:
 def coordinate(path: Path, word: str) -> str:
     """A coordinate with six decimals at most, and without an exponent."""
     try:
-        text = decimal(f"{Decimal(word):.6f}")
+        number = Decimal(word)
     except InvalidOperation:
-        text = None
+        number = Decimal("nan")
+    text = decimal(f"{number:.6f}") if number.is_finite() and number.adjusted() < DIGITS else None
     if text is None:
         raise Lost(f"{path.name}: {word} is no coordinate")
     return text

@@ -1,6 +1,6 @@
 """Values and conditions of a CGA file, read from its tokens."""
 import re
-from decimal import Decimal
+from decimal import Decimal, InvalidOperation
 from fractions import Fraction
 from typing import Callable, List, Optional, Tuple
 
@@ -13,6 +13,9 @@ LEVELS = [["||"], ["&&"], ["==", "!=", "<", "<=", ">", ">="], ["+", "-"], ["*", 
 SPACED = {"-->", "|", ":", "&&", "||", "==", "!=", "<", ">", "<=", ">=", "{", "}", "[", "]", "=", "+", "*", "/"}
 
 
+FARTHEST = 308  # digits before and after the point, which floats have
+
+
 class Unreadable(Exception):
     """What stands at a token can't stand there."""
 
@@ -20,7 +23,13 @@ class Unreadable(Exception):
 def number_of(text: str) -> Fraction:
     """The number, in metres where a unit stands behind it."""
     digits, unit = re.fullmatch(r"(.*?)(mm|cm|km|m|ft|in|)", text).groups()
-    return Fraction(Decimal(digits)) * METRES[unit]
+    try:
+        number = Decimal(digits)
+    except InvalidOperation:
+        number = Decimal("nan")
+    if not number.is_finite() or abs(number.adjusted()) > FARTHEST:
+        raise Unreadable(f"`{text}` is out of range")
+    return Fraction(number) * METRES[unit]
 
 
 def written(tokens: List[Token]) -> str:
