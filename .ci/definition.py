@@ -19,7 +19,7 @@ TOP = Path(__file__).resolve().parent.parent
 sys.dont_write_bytecode = True
 sys.path[:0] = [str(TOP / "tools"), str(TOP / "tools" / "tests"), str(TOP / ".ci")]
 
-import edits_at_random  # noqa: E402
+import random_street  # noqa: E402
 import random_scripts  # noqa: E402
 from definition.output import output_of  # noqa: E402
 from definition.town import town_text  # noqa: E402
@@ -82,10 +82,10 @@ def stored():
 def street(seed):
     """Edits of a street of lots that see one another, each followed by reports."""
     draw = random.Random(seed)
-    lines = ["version 2\n" + edits_at_random.STREET.rstrip("\n")]
+    lines = ["version 2\n" + random_street.RULES]
     for _ in range(EDITS):
         lines += [
-            edits_at_random.drawn_edit(draw),
+            random_street.drawn_edit(draw),
             draw.choice(("stats", "faults", "trace", "bill", "stats", "print a")),
         ]
     return "\n".join([*lines, "print", "trace", "dump", ""]).encode()

@@ -9,54 +9,11 @@ import subprocess
 import sys
 
 from live_town import Town, Wrong, drawn_of, printed
+from random_street import RULES, drawn_edit
 
-RULES = """rules
-attr h = 1
-attr w = 2
-PRIORITY 1:
-1: early -> S(1r, 6, 1r) mass
-8: la -> [ S(1r, h, 1r) base ] T(0, 4, 0) S(1r, 1, 1r) top
-9: lb -> T(0, 2, 0) S(1r, 1, 1r) mid
-16: eyes -> [ S(1r, 4, 1r) eye ] T(0, 0, 2) S(1r, 5, 1r) mass
-PRIORITY 2:
-2: mass -> Comp("face", "front") { facade } Comp("sidefaces") { side }
-10: base -> I("cube")
-PRIORITY 3:
-3: facade -> Subdiv("X", 1r, w, 1r) { NIL | window | NIL }
-21: side -> Repeat("X", 7/3) { pane }
-22: pane : Scope.occ("noparent") == "none" -> I("quad")
-23: pane -> NIL
-11: mid : Scope.occ("noparent") == "none" -> I("cube")
-12: mid -> S(1r, 3, 1r) bulk
-17: eye : Scope.occ("active") == "none" -> I("cube")
-18: eye : Scope.occ("active") == "part" -> S(1r, 2, 1r) roof
-19: eye -> NIL
-PRIORITY 4:
-4: window : Scope.occ("noparent") == "none" -> I("quad")
-5: window : Scope.occ("noparent") == "full" -> NIL
-6: window -> S(1r, 1r, 0.5) I("cube")
-13: bulk -> I("shed")
-PRIORITY 5:
-14: top : Scope.occ("noparent") == "none" -> I("cube")
-15: top -> NIL
-PRIORITY 6:
-20: roof -> I("hip") : 0.5 -> I("gable") : 0.5
-PRIORITY 9:
-7: late -> S(1r, 6, 1r) mass
-end"""
-PUTS = [
-    'put 4 5: window : Scope.occ("noparent") == "full" -> S(1r, 1r, 2) I("cube")',
-    'put 4 5: window : Scope.occ("noparent") == "full" -> NIL',
-    'put 5 15: top -> S(1r, 2, 1r) I("cube")',
-    'put 4 6: window -> S(1r, 1r, 0.5) I("cube")',
-    "put 1 9: lb -> T(0, 2, 0) S(1r, h, 1r) mid",
-    "put 1 9: lb -> T(0, 2, 0) S(1r, 1 / (h - 2), 1r) mid",
-    "put 3 3: facade -> facade2",
-    "drop 6",
+OTHERS = [  # lines that are no edit, or that are refused
     "drop 60",
     "nonsense",
-]
-REPORTS = [
     "stats",
     "bill",
     "faults",
@@ -72,28 +29,12 @@ REPORTS = [
 MARK, MARKED = "print no_such_lot", "# refused NoLot no_such_lot"
 
 
-def edit(draw):
-    """One line or block: mostly an edit of a lot, else of what all lots share, or a report."""
-    lot, kind = draw.choice("abcde"), draw.randrange(24)
-    if kind < 9:
-        place = f"{draw.randrange(-2, 9)} {draw.randrange(-4, 9)}/{draw.choice((1, 2, 3))}"
-        symbol = draw.choice(("early", "late", "la", "lb", "eyes"))
-        return f"lot {lot} {draw.randrange(7)} {place} {draw.choice((10, 10, 14, 0))} {draw.choice((8, 10))} {symbol}"
-    if kind < 11:
-        return f"unlot {lot}"
-    if kind < 13:
-        return f"priority {draw.choice(('late', 'window', 'mid', 'top', 'eye', 'none'))} {draw.randrange(10)}"
-    if kind < 15:
-        return f"attr {draw.choice('hw')} = {draw.choice(('1', '5/2', '2', '12'))}"
-    if kind < 18:
-        return draw.choice(PUTS)
-    if kind == 18:
-        return f"order {draw.choice(('breadth', 'depth'))}"
-    if kind == 19:
-        return RULES
-    if kind == 20:
-        return draw.choice(REPORTS)
-    return draw.choice(("undo", "redo"))
+def drawn_line(draw):
+    """One line or block: mostly an edit, else a line that changes nothing, or the rules again."""
+    kind = draw.randrange(24)
+    if kind < 2:
+        return draw.choice(OTHERS)
+    return RULES if kind == 2 else drawn_edit(draw)
 
 
 def run(program, script):
@@ -146,7 +87,7 @@ def check(program, plain, seed, lines):
     draw = random.Random(seed)
     second = draw.randrange(4) > 0
     first = draw.choice(("", "\n# a comment\n")) + "version 2" * second
-    edits = [first, RULES] + [edit(draw) for _ in range(lines)]
+    edits = [first, RULES] + [drawn_line(draw) for _ in range(lines)]
     sources, town, known = Sources(second), Town(), {}
     script = "".join(f"{line}\n{MARK}\n{sources.asks}\n{MARK}\n" for line in edits) + f"print\n{MARK}\n"
     told = parts(town.take(run(program, script)))
@@ -171,7 +112,7 @@ def main():
     parser.add_argument("program", help="cga_live")
     parser.add_argument("plain", help="cga_city, whose replies are to be the same")
     parser.add_argument("--scripts", type=int, default=30, help="how many scripts (30)")
-    parser.add_argument("--lines", type=int, default=20, help="lines of each behind the rules (20)")
+    parser.add_argument("--lines", type=int, default=20, help="lines of each after the rules (20)")
     parser.add_argument("--first", type=int, default=1, help="the first seed (1)")
     words = parser.parse_args()
     failed = lines = told = 0

@@ -2,14 +2,13 @@
 """Drives a program through random edits of towns of 250 to 4,000 lots. Three times in each script the town that is kept prints
 what a fresh run prints that is given the dumped sources. The seeds are fixed. The last line is 'N passed, M failed'.
 """
-import argparse
 import random
 import sys
 from pathlib import Path
 
 sys.path.append(str(Path(__file__).resolve().parent.parent / "bench"))
 
-from edits_at_random import MARK, MARKED, numbers, run  # noqa: E402
+from edits_at_random import MARK, MARKED, main, numbers, run  # noqa: E402
 from works import lot, small_town, town  # noqa: E402
 
 PARTS, EDITS = 3, 8  # so often a town is compared, and so many edits come before each time
@@ -65,20 +64,5 @@ def faults(program, seed):
             yield f"seed {seed}: {lots} lots, part {part}: a fresh run reports otherwise"
 
 
-def main():
-    parser = argparse.ArgumentParser(description=__doc__, formatter_class=argparse.RawDescriptionHelpFormatter)
-    parser.add_argument("program", nargs="+", help="the program, and words that it is given")
-    parser.add_argument("--scripts", type=int, default=60, help="how many scripts (60)")
-    parser.add_argument("--first", type=int, default=1, help="the first seed (1)")
-    words, failed = parser.parse_args(), 0
-    for seed in range(words.first, words.first + words.scripts):
-        told = list(faults(words.program, seed))
-        for fault in told:
-            print(fault)
-        failed += bool(told)
-    print(f"{words.scripts - failed} passed, {failed} failed")
-    sys.exit(1 if failed else 0)
-
-
 if __name__ == "__main__":
-    main()
+    main(__doc__, faults, 60)

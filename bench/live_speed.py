@@ -15,24 +15,11 @@ from pathlib import Path
 sys.path.append(str(Path(__file__).resolve().parent.parent / ".ci"))
 
 import tables  # noqa: E402
+import works  # noqa: E402
 from live_town import Town  # noqa: E402
 
-RULES = """attr storey = 3
-attr bay = 5/2
-attr spire = 2
-PRIORITY 1:
-1: lot -> S(1r, {floors} * storey, 1r) mass T(0, {floors} * storey, 0) S(1r, 2, 1r) roof
-2: mass -> Comp("sidefaces") {{ facade }}
-10: tower -> S(1r, spire, 1r) I("cube") Comp("sidefaces") {{ facade }}
-PRIORITY 2:
-3: roof -> I("hip") : 0.5 -> I("gable") : 0.5
-4: facade -> Repeat("Y", storey) {{ level }}
-5: level -> Repeat("X", bay) {{ tile }}
-6: tile : Scope.occ("noparent") == "none" -> Subdiv("X", 1r, 1, 1r) {{ wall | window | wall }}
-7: tile -> wall
-8: window -> S(1r, 1r, 0.25) I("cube")
-9: wall -> I("quad")
-"""
+TOWER = '10: tower -> S(1r, spire, 1r) I("cube") Comp("sidefaces") {{ facade }}\n'
+RULES = "attr spire = 2\n" + works.RULES.replace("PRIORITY 2:\n", TOWER + "PRIORITY 2:\n")
 MARK, MARKED = b"print no_such_lot\n", b"# refused NoLot no_such_lot\n"
 SIZES = (15, 200, 1000, 4000)
 

@@ -3,7 +3,6 @@
 A lot's node is moved by whole units, which floats of 32 bits hold exactly up to 16 million; what is in it lies near it. An
 instance is a node of its own, of core glTF, or one entry of EXT_mesh_gpu_instancing.
 """
-import math
 from array import array
 from operator import sub
 from typing import Any, Callable, Dict, Iterable, List, Mapping, Optional, Sequence, Tuple
@@ -11,18 +10,17 @@ from typing import Any, Callable, Dict, Iterable, List, Mapping, Optional, Seque
 from .corners import Corners, Pattern, pattern_of
 from .forms import Form
 from .glb import INSTANCING, Glb
-from .instances import Instance, Reals
+from .instanced import Instanced, whole_low
+from .instances import Instance
 from .materials import Materials
 from .own_corners import corners_of, moved
 from .own_mesh import OwnMesh, placed
 from .places import Stand, stand_of
 from .setting import Setting
-from .units import OWN, Found, Point, Units, unit_solid
+from .units import OWN, Found, Point, unit_solid
 
 
-class Scene:
-    """`is_instance` and `meshes` say which solids are instances, as Units does."""
-
+class Scene(Instanced):
     def __init__(
         self,
         names: Mapping[str, Sequence[str]],
@@ -31,11 +29,9 @@ class Scene:
         meshes: Optional[Mapping[str, OwnMesh]] = None,
         is_packed: bool = False,
     ) -> None:
-        self.names, self.metres, self.is_packed = names, float(setting.metres), is_packed
-        self.meshes, self.extras = meshes or {}, {}  # type: ignore[var-annotated]
-        self.units = Units(is_instance, self.meshes)
-        self.offset, self.reals = tuple(map(float, setting.offset)), Reals()
-        self.glb = Glb()
+        super().__init__(names, setting, is_instance, meshes or {})
+        self.is_packed, self.glb = is_packed, Glb()
+        self.extras: Dict[str, Any] = {}
         self.materials = Materials(self.glb)
         self.numbers: Dict[Tuple[Any, ...], int] = {}  # of the meshes that instances share
         self.patterns: Dict[Form, Pattern] = {}
@@ -54,10 +50,9 @@ class Scene:
         once: Dict[Tuple[Any, ...], Corners] = {}
         instances: Dict[Tuple[Any, ...], List[Found]] = {}
         for number, solid in enumerate(solids):
-            unit = self.units.of(name, number, solid)
-            if unit:
-                found = Found(self.names[name][number], unit, self.corner(solid.corner))
-                instances.setdefault((solid.symbol, *unit.mesh), []).append(found)
+            found = self.found(name, number, solid)
+            if found:
+                instances.setdefault((solid.symbol, *found.unit.mesh), []).append(found)
             elif solid.symbol in self.meshes:
                 self.bake(once, stand_of(name, number, solid.form), solid, low)
             else:
@@ -66,7 +61,7 @@ class Scene:
                     kept = once[(solid.symbol,)] = Corners(low)
                 kept.add(pattern_of(solid.form, self.patterns), self.corner(solid.corner))
         node: Dict[str, Any] = {"name": name, "translation": list(low)}
-        parts = [found.primitive(self.glb, self.material(*key)) for key, found in once.items() if found.tell()]
+        parts = [made.primitive(self.glb, self.material(*key)) for key, made in once.items() if made.tell()]
         if parts:
             node["mesh"] = self.glb.add("meshes", {"name": name, "primitives": parts})
         if instances:
@@ -78,20 +73,13 @@ class Scene:
         corners: Dict[Form, List[Sequence[str]]] = {}
         for _, form, corner in solids:
             corners.setdefault(form, []).append(corner)
-        ends = [self.least(form, some) for form, some in corners.items()]
-        x, y, z = (float(math.floor(min(parts))) for parts in zip(*ends))
-        return x, y, z
+        return whole_low(zip(*[self.least(form, some) for form, some in corners.items()]))
 
     def least(self, form: Form, corners: Sequence[Sequence[str]]) -> List[float]:
         """The least coordinate along each axis of a form at some corners."""
         texts, reals = [set(some) for some in zip(*corners)], self.reals
         numbers = [min([reals[text] for text in some]) for some in texts]
         return [at - offset + least for at, offset, least in zip(numbers, self.offset, form.ends()[0])]
-
-    def corner(self, texts: Sequence[str]) -> Point:
-        """A corner without the offset."""
-        (x, y, z), reals, (a, b, c) = texts, self.reals, self.offset
-        return reals[x] - a, reals[y] - b, reals[z] - c
 
     def material(self, symbol: str, part: Optional[int] = None) -> int:
         if part is None:

@@ -2,16 +2,16 @@
 
 Places are told from the offset; the unit is told by metersPerUnit. A quaternion is written with its real part first.
 """
-import math
 from typing import Any, Callable, Dict, Iterable, Iterator, List, Mapping, NamedTuple, Sequence, Tuple
 
 from .colours import look_of
-from .instances import Instance, Reals
+from .instanced import Instanced, whole_low
+from .instances import Instance
 from .materials import linear
 from .own_mesh import OwnMesh, Part, Surface, placed
 from .places import stand_of
 from .setting import Setting
-from .units import OWN, Found, Kind, Point, Units, unit_solid
+from .units import OWN, Found, Kind, Point, unit_solid
 from .usda import Names, Prim, array_of, box_of, dictionary, number, quoted, text_of, tuple_of
 
 BINDING = 'prepend apiSchemas = ["MaterialBindingAPI"]'
@@ -30,8 +30,8 @@ class Flat(NamedTuple):
         self.faces.extend(tuple(first + at for at in face) for face in faces)
 
 
-class Town:
-    """The prims of a town. `names` has the ids of the instances of each lot."""
+class Town(Instanced):
+    """The prims of a town."""
 
     def __init__(
         self,
@@ -41,10 +41,9 @@ class Town:
         meshes: Mapping[str, OwnMesh],
         place: Mapping[str, Any],
     ) -> None:
-        self.ids, self.meshes, self.place, self.metres = names, meshes, place, float(setting.metres)
-        self.offset, self.reals = tuple(map(float, setting.offset)), Reals()
-        self.units, self.materials = Units(is_instance, meshes), Materials()
-        self.found: Dict[str, Dict[Kind, List[Found]]] = {}  # instances by symbol
+        super().__init__(names, setting, is_instance, meshes)
+        self.place, self.materials = place, Materials()
+        self.instances: Dict[str, Dict[Kind, List[Found]]] = {}  # by symbol
 
     def lines(self, lots: Iterable[Tuple[str, List[Instance]]]) -> Iterator[str]:
         """The lines of the file. What instances and materials there are is known when all lots are told."""
@@ -62,10 +61,10 @@ class Town:
         yield Prim("Xform", "lots", [], lots)
 
     def instancers(self) -> Iterator[Prim]:
-        if self.found:
+        if self.instances:
             names, above = Names(), "/town/instances"
             some = (
-                self.instancer(f"{above}/{names.of(symbol)}", symbol, found) for symbol, found in self.found.items()
+                self.instancer(f"{above}/{names.of(symbol)}", symbol, found) for symbol, found in self.instances.items()
             )
             yield Prim("Xform", "instances", [], some)
 
@@ -78,12 +77,11 @@ class Town:
         low = self.low(solids)
         once: Dict[str, Flat] = {}
         for at, solid in enumerate(solids):
-            unit = self.units.of(lot, at, solid)
-            by = self.corner(solid.corner)
-            if unit:
-                found = self.found.setdefault(solid.symbol, {}).setdefault(unit.mesh, [])
-                found.append(Found(self.ids[lot][at], unit, by))
+            found = self.found(lot, at, solid)
+            if found:
+                self.instances.setdefault(solid.symbol, {}).setdefault(found.unit.mesh, []).append(found)
                 continue
+            by = self.corner(solid.corner)
             for material, points, faces in self.pieces(lot, at, solid):
                 moved = by[0] - low[0], by[1] - low[1], by[2] - low[2]
                 once.setdefault(material, Flat([], [])).add(points, faces, moved)
@@ -104,12 +102,7 @@ class Town:
 
     def low(self, solids: List[Instance]) -> Point:
         """A lot's low corner in whole units."""
-        x, y, z = (float(math.floor(min(axis))) for axis in zip(*(self.corner(solid.corner) for solid in solids)))
-        return x, y, z
-
-    def corner(self, texts: Sequence[str]) -> Point:
-        (x, y, z), reals, (a, b, c) = texts, self.reals, self.offset
-        return reals[x] - a, reals[y] - b, reals[z] - c
+        return whole_low(zip(*(self.corner(solid.corner) for solid in solids)))
 
     @staticmethod
     def mesh(name: str, material: str, flat: Flat, more: Sequence[str] = ()) -> Prim:

@@ -22,32 +22,19 @@ def found_in(script):
 
 
 @unittest.skipUnless(shutil.which("vim"), "vim isn't there")
+def vim(*words):
+    """Vim with this editor's files alone, which ends after the words."""
+    start = ["-es", "-u", "NONE", "-i", "NONE", "--cmd", f"set rtp^={TOP}/editor/vim", "--cmd", "filetype plugin on"]
+    return ["vim", *start, *words, "-c", "qa!"]
+
+
 class Vim(unittest.TestCase):
     def made(self, script, *commands):
         """Vim's list after :make of a script in a folder whose name has a blank and a quote."""
         with tempfile.TemporaryDirectory(prefix="a script's ") as folder:
             shutil.copy(TESTS / "lint" / f"{script}.cga", folder)
             listed = 'call writefile([json_encode(map(getqflist(), {_, it -> [it.lnum, it.col, it.type == "n", it.text, bufname(it.bufnr)]}))], "listed")'
-            words = [
-                "vim",
-                "-es",
-                "-u",
-                "NONE",
-                "-i",
-                "NONE",
-                "--cmd",
-                f"set rtp^={TOP}/editor/vim",
-                "--cmd",
-                "filetype plugin on",
-                *commands,
-                f"{script}.cga",
-                "-c",
-                "silent make!",
-                "-c",
-                listed,
-                "-c",
-                "qa!",
-            ]
+            words = vim(*commands, f"{script}.cga", "-c", "silent make!", "-c", listed)
             env = {**os.environ, "STORED": str(TESTS / "lint" / f"{script}.replies")}
             done = subprocess.run(words, cwd=folder, env=env, capture_output=True, text=True)
             self.assertTrue((Path(folder) / "listed").exists(), done)
@@ -61,23 +48,7 @@ class Vim(unittest.TestCase):
                 self.assertEqual({one[4] for one in made}, {f"{script}.cga"})
 
     def test_the_linter_above_the_script(self):
-        words = [
-            "vim",
-            "-es",
-            "-u",
-            "NONE",
-            "-i",
-            "NONE",
-            "--cmd",
-            f"set rtp^={TOP}/editor/vim",
-            "--cmd",
-            "filetype plugin on",
-            "examples/first_box.cga",
-            "-c",
-            "redir! > /dev/stdout | echo &makeprg | redir END",
-            "-c",
-            "qa!",
-        ]
+        words = vim("examples/first_box.cga", "-c", "redir! > /dev/stdout | echo &makeprg | redir END")
         said = subprocess.run(words, cwd=TOP, capture_output=True, text=True).stdout
         self.assertIn(f"'{TOP}/tools/lint' %:S", said)
 
