@@ -16,7 +16,7 @@ or its definition is taken from the toolchain. A type such as `Status` is that o
 | To read | Means |
 |---|---|
 | `name : A → B → C`, and lines `name a b = ..` below it | a function of an A and a B that gives a C, by cases, the first that fits |
-| `x ∷ xs`, `[]`, `xs ++ ys` | a list with the head x, the empty list, one list behind the other |
+| `x ∷ xs`, `[]`, `xs ++ ys` | a list with the head x, the empty list, one list after the other |
 | `Ok x`, `Err e`; `Some x`, `None` | what went well or was refused; what is there or isn't |
 | `and_then r f` | f of what r gives where that is Ok, and r otherwise |
 | `err_if test fault r` | `Err fault` where the test holds, and r otherwise |

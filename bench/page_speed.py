@@ -54,10 +54,10 @@ FIRST = ["Lots", "Triangles", "First picture", "Python", "Bytes sent", "A pictur
 SAVES = ["Lots", "Save", "Python", "Bytes sent", "There: least, middle", "Aim", "Drawn: least, middle"]
 MEMORY = [
     "Lots",
-    "Page behind one edit of all",
-    "Page behind ten more",
-    "Preview behind one",
-    "Preview behind ten more",
+    "Page after one edit of all",
+    "Page after ten more",
+    "Preview after one",
+    "Preview after ten more",
 ]
 AIMS = {  # thousandths of a second by kind of save
     "a lot": {200: 50, 1000: 80, 4000: 100},
@@ -220,7 +220,7 @@ def rows(browser, preview, town, lots, saves, only):
 
 
 def memory(browser, preview, town, lots):
-    """The memory behind one edit of all, and behind ten more."""
+    """The memory after one edit of all, and after ten more."""
     found, turns = [], turns_of_all(town)
     for turn in turns:
         saved(browser, preview, town, attribute_of_all, turn)

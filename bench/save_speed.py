@@ -30,7 +30,7 @@ import tables  # noqa: E402
 from page_speed import CHANGES, HALVES, TICK, attribute_of_all, turns_of_all  # noqa: E402
 
 SAVES = ["Lots", "What", "Python", "Program", "Bytes sent", "By the clock"]
-MEMORY = ["Lots", "Preview behind one edit of all", "Behind ten more"]
+MEMORY = ["Lots", "Preview after one edit of all", "After ten more"]
 
 
 def stat_of(pid: Any) -> Tuple[int, float, float]:
@@ -106,7 +106,7 @@ def saves(preview: Any, reader: Reader, town: Any) -> Iterator[Tuple[str, List[s
 
 
 def kept(preview: Any, reader: Reader, town: Any) -> Iterator[str]:
-    """The memory behind one edit of all, and behind ten more."""
+    """The memory after one edit of all, and after ten more."""
     turns = turns_of_all(town)
     for turn in turns:
         attribute_of_all(town, turn)
