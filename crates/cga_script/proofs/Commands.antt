@@ -1,5 +1,5 @@
 -- The commands of both versions are forms.
-use Rattle.std.proofs.Common.{◌≡◌, ℕ, ◌∷◌, [], List, Bool, true, false, Option, Some, None, refl, codes}
+use Rattle.std.proofs.Common.{◌≡◌, ℕ, ◌∷◌, [], List, Bool, true, false, Option, Some, None, is_some, refl, ap, codes}
 use Rattle.cga_lexer.specs.declared.sign.Sign.TheVariants as s
 use Rattle.cga_syntax.specs.declared.lexeme.Lexeme.{Lexeme}
 use Rattle.cga_syntax.specs.declared.print.space.Space.TheVariants.{Usual}
@@ -28,7 +28,7 @@ use Rattle.cga_script.specs.Heads.{head_word, a_head, further_word, a_further, i
 use Rattle.cga_script.specs.Commands.{maybe_named, maybe_name, in_two, edit_pieces, command_pieces, command_rest, further_rest, first_command, second_command, by_version, command}
 use Rattle.cga_script.specs.Lots.{lot_pieces}
 use Rattle.cga_script.specs.Orders.{order_pieces}
-use Rattle.cga_script.proofs.HeadWords.{head_token, head_read, head_no_lot, head_no_order, head_no_further, further_token, further_read, further_no_order, further_yes}
+use Rattle.cga_script.proofs.HeadWords.{head_token, head_is, further_token, further_is}
 use Rattle.cga_script.proofs.Lots.{lot_form}
 use Rattle.cga_script.proofs.Orders.{order_form}
 
@@ -99,13 +99,13 @@ maybe_again = record { all = maybe_at }
 first_at : (n : ℕ) (h : CommandHead) {b : ScriptCommand} {qs : Pieces} → Leads any qs (command_rest n h) b
     → Leads any (word (head_word h) ∷ qs) (first_command n) b
 unfolding first_command
-first_at n h rest = peek_no (is_word (codes "lot")) (missed (begun_token (head_no_lot h))) (took a_head h (head_read h) rest)
+first_at n h rest = peek_no (is_word (codes "lot")) (missed (begun_token (head_is h).no_lot)) (took a_head h (head_is h).read rest)
 
 second_at : (n : ℕ) (h : CommandHead) {b : ScriptCommand} {qs : Pieces} → Leads any qs (command_rest n h) b
     → Leads any (word (head_word h) ∷ qs) (second_command n) b
 unfolding second_command
 second_at n h rest =
-    peek_no (is_word (codes "order")) (missed (begun_token (head_no_order h))) (peek_no is_further (missed (begun_token (head_no_further h))) (first_at n h rest))
+    peek_no (is_word (codes "order")) (missed (begun_token (head_is h).no_order)) (peek_no is_further (missed (begun_token (head_is h).no_further)) (first_at n h rest))
 
 version_at : (v : Version) (n : ℕ) (h : CommandHead) {b : ScriptCommand} {qs : Pieces}
     → Leads any qs (command_rest n h) b → Leads any (word (head_word h) ∷ qs) (by_version v n) b
@@ -125,7 +125,7 @@ unfolding command second_command
 by_further One n h rest = never_leads
 by_further Two n h rest =
     peek_yes any (starts_token refl)
-    (peek_no (is_word (codes "order")) (missed (begun_token (further_no_order h))) (peek_yes is_further (starts_token (further_yes h)) (took a_further h (further_read h) rest)))
+    (peek_no (is_word (codes "order")) (missed (begun_token (further_is h).no_order)) (peek_yes is_further (starts_token (ap is_some (further_is h).read)) (took a_further h (further_is h).read rest)))
 
 lot_first : (n : ℕ) (l : Lot) → Leads any (lot_pieces l) (first_command n) (c.Change (edit.SetLot l))
 unfolding first_command

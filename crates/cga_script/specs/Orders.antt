@@ -1,11 +1,11 @@
 -- The order of derivation as a line: what it is written as, and how it is read.
-use Rattle.std.specs.Prelude.{ℕ, List, [], ◌∷◌, Option, Some, None, codes, if◌then◌else◌}
-use Rattle.cga_syntax.specs.Lexemes.{is}
+use Rattle.std.specs.Prelude.{ℕ, List, [], ◌∷◌, Option, codes}
 use Rattle.cga_syntax.specs.Pieces.{Pieces, word}
 use Rattle.cga_syntax.specs.declared.lexeme.Lexeme.{Lexeme}
 use Rattle.cga_syntax.specs.declared.lexeme.Lexeme.TheVariants as lexeme
 use Rattle.cga_form.specs.Reader.{Reader, ◌>>=◌, ◌>>◌, pure, single}
 use Rattle.cga_form.specs.Parts.{a_word}
+use Rattle.cga_form.specs.Tokens.{beside, chosen}
 use Rattle.cga_word.specs.declared.mode.Mode.{Mode}
 use Rattle.cga_word.specs.declared.mode.Mode.TheVariants as mode
 
@@ -14,17 +14,9 @@ abbrev pub mode_word : Mode → List ℕ
 mode_word mode.Breadth = codes "breadth"
 mode_word mode.Depth = codes "depth"
 
--- the mode of a word
-abbrev pub mode_of : List ℕ → Option Mode
-mode_of name =
-    if is name (codes "breadth") then Some mode.Breadth
-    else if is name (codes "depth") then Some mode.Depth
-    else None
-
 -- which mode
 abbrev pub a_mode : Lexeme → Option Mode
-a_mode (lexeme.Name name) = mode_of name
-a_mode _ = None
+a_mode = chosen (beside (λ m. lexeme.Name (mode_word m)) (mode.Breadth ∷ mode.Depth ∷ []))
 
 -- the word `order`, and the word of the mode
 abbrev pub order_pieces : Mode → Pieces
