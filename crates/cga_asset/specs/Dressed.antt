@@ -1,5 +1,5 @@
 -- What is drawn, dressed.
-use Rattle.std.specs.Prelude.{ℕ, List, Bool, ◌||◌, nat_lt, length, sum_by, Option, Some, None, Result, Ok, Err, if◌then◌else◌}
+use Rattle.std.specs.Prelude.{ℕ, ◌+◌, List, Bool, ◌||◌, nat_lt, length, sum_by, Option, Some, None, Result, Ok, Err, if◌then◌else◌}
 use Rattle.cga_fraction.specs.declared.overflow.Overflow.{Overflow}
 use Rattle.cga_shape.specs.declared.drawn.Drawn.{Drawn}
 use Rattle.cga_solid.specs.declared.solid_mesh.SolidMesh.{SolidMesh}
@@ -7,6 +7,7 @@ use Rattle.cga_obj.specs.Lots.{Shown, text_by}
 use Rattle.cga_obj.specs.Meshes.{mesh_drawn}
 use Rattle.cga_asset.specs.Fit.{fit_of}
 use Rattle.cga_asset.specs.Wardrobe.{WardrobeView, worn}
+use Rattle.cga_asset.specs.declared.model_size.ModelSize.{ModelSize}
 use Rattle.cga_asset.specs.declared.too_large.ModelTooLarge.{ModelTooLarge}
 
 -- the fitted asset, or the solid where the fit is refused
@@ -35,6 +36,24 @@ entries_of mesh d = face_entries (mesh d)
 -- what would be drawn has too many vertices or face entries
 abbrev pub is_too_large : Shown → List Drawn → Bool
 is_too_large mesh drawn = nat_lt 4000000 (sum_by (vertices_of mesh) drawn) || nat_lt 16000000 (sum_by (entries_of mesh) drawn)
+
+-- the size of no mesh
+abbrev pub no_size : ModelSize
+no_size = record { vertices = 0; entries = 0 }
+
+-- a size, with what is drawn more
+abbrev pub with_drawn : Shown → List Drawn → ModelSize → ModelSize
+with_drawn mesh drawn size = record {
+  vertices = size.vertices + sum_by (vertices_of mesh) drawn;
+  entries = size.entries + sum_by (entries_of mesh) drawn;
+}
+
+-- a model of this size is too large
+abbrev pub is_over : ModelSize → Bool
+is_over size = nat_lt 4000000 size.vertices || nat_lt 16000000 size.entries
+
+abbrev pub within_limit : ModelSize → Result ModelSize ModelTooLarge
+within_limit size = if is_over size then Err (record {}) else Ok size
 
 -- the text of a model, or its refusal
 unfoldable pub model_text_of : WardrobeView → List (List ℕ) → List Drawn → ℕ → Result (List ℕ) ModelTooLarge

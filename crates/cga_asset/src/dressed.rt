@@ -1,13 +1,14 @@
-ghost use Rattle.std.specs.Prelude.{◌≡◌, ◌≤◌, ◌+◌, ◌*◌, ◌^◌, ◌||◌, IfOk, IsOk, bytes_eq, length, nat_lt, sum_by};
+ghost use Rattle.std.specs.Prelude.{◌≡◌, ◌≤◌, IfOk, IsOk, bytes_eq};
 ghost use Rattle.std.specs.List.{IsDistinct};
 ghost use Rattle.cga_obj.specs.Lots.{AreSolid, StandsBy};
 ghost use Rattle.cga_obj.specs.Meshes.{mesh_drawn};
 ghost use Rattle.cga_solid.specs.Solids.{check_solid_of};
-ghost use Rattle.cga_asset.specs.Dressed.{fitted_or_solid, is_too_large, model_text_of};
+ghost use Rattle.cga_asset.specs.Dressed.{fitted_or_solid, model_text_of};
 ghost use Rattle.cga_asset.specs.Fit.{fit_of};
 
 use crate::asset::Asset;
 use crate::fitting::fit;
+use crate::model_size::ModelSize;
 use crate::too_large::ModelTooLarge;
 use crate::wardrobe::Wardrobe;
 use cga_fraction::{List, NoMemory, Overflow};
@@ -16,10 +17,6 @@ use cga_shape::Drawn;
 use cga_solid::SolidMesh;
 use cga_word::Name;
 use std::alloc::Global;
-
-const MOST_VERTICES: u128 = 4_000_000;
-
-const MOST_ENTRIES: u128 = 16_000_000;
 
 fn solid(alloc: Global, drawn: &Drawn) -> Result<SolidMesh, NoMemory>
     requires { IsOk (check_solid_of drawn.now.primitive drawn.now.scope) }
@@ -58,41 +55,6 @@ impl Meshes for Wardrobe {
     }
 }
 
-fn entries(faces: &[List<u32>]) -> u128
-    ensures value { result ≡ sum_by (λ f. length f) faces.now }
-    ensures small { result ≤ length faces.now * 18446744073709551615 }
-{
-    let mut entries = 0;
-    for face in faces {
-        entries += face.len() as u128;
-    }
-    entries
-}
-
-fn exceeds(vertices: u128, numbers: u128) -> bool
-    ensures { result ≡ (nat_lt 4000000 vertices || nat_lt 16000000 numbers) }
-{
-    vertices > MOST_VERTICES || numbers > MOST_ENTRIES
-}
-
-// Whether the meshes of what is drawn are too large together.
-fn is_large<M: Meshes>(alloc: Global, meshes: &M, drawn: &[Drawn]) -> Result<bool, NoMemory>
-    requires { AreSolid drawn.now }
-    ensures { IfOk result (λ large. large ≡ is_too_large (M.mesh_of meshes.now) drawn.now) }
-{
-    let mut vertices: u128 = 0;
-    let mut numbers: u128 = 0;
-    for instance in drawn {
-        let mesh = meshes.mesh(alloc, instance)?;
-        vertices += mesh.vertices.len() as u128;
-        numbers += entries(mesh.faces.as_slice());
-        if exceeds(vertices, numbers) {
-            return Ok(true);
-        }
-    }
-    Ok(false)
-}
-
 /// The OBJ text of what is drawn, with what is dressed drawn by its assets; or that there is too much of it. Takes memory,
 /// and makes each mesh twice.
 #[tactic(auto, unfolding(crate::specs::Dressed::model_text_of))]
@@ -109,8 +71,8 @@ pub fn model_text(
     requires solid { AreSolid drawn.now }
     ensures { IfOk result (λ text. text ≡ model_text_of wardrobe.now lots.now drawn.now decimals) }
 {
-    if is_large(alloc, wardrobe, drawn)? {
-        return Ok(Err(ModelTooLarge));
+    match ModelSize::zero().with_drawn(alloc, wardrobe, drawn)? {
+        Ok(_) => Ok(Ok(text_by(alloc, wardrobe, lots, drawn, decimals)?)),
+        Err(ModelTooLarge) => Ok(Err(ModelTooLarge)),
     }
-    Ok(Ok(text_by(alloc, wardrobe, lots, drawn, decimals)?))
 }

@@ -29,5 +29,6 @@ mod CityRuns
 mod LotByLot
 mod LotTexts
 mod OwnLots
-mod Printing
+mod Reporting
+mod Sizes
 pub mod Door

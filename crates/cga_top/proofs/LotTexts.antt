@@ -6,8 +6,7 @@ use Rattle.std.specs.Prelude.{bytes_eq, codes}
 use Rattle.std.specs.List.{AllByRecursion, IsDistinct}
 use Rattle.std.specs.Io.KnownBytes.{Appends}
 use Rattle.cga_shape.specs.declared.drawn.Drawn.{Drawn}
-use Rattle.cga_obj.specs.Lots.{Shown, StandsBy, instance_text, instances_text, lot_text, lots_text, obj_text_of, text_by, vertex_count, vertices_in}
-use Rattle.cga_obj.specs.Meshes.{mesh_drawn}
+use Rattle.cga_obj.specs.Lots.{Shown, StandsBy, instance_text, instances_text, lot_text, lots_text, text_by, vertex_count, vertices_in}
 use Rattle.cga_obj.proofs.Door.{FirstRun, drop_first, no_lot, one_lot, run_at}
 use Rattle.cga_top.specs.Prefixes.{AppendsSome}
 use Rattle.cga_top.proofs.Effects.{some_after, some_more}
@@ -117,12 +116,12 @@ pub apart_more : (all : List (List ℕ)) (i : ℕ) (lot : List ℕ) → i < leng
 apart_more all i lot within at apart =
     apart_rest lot (drop (i + 1) all) (subst (IsDistinct bytes_eq) (drop_first all i lot within (sym at)) apart)
 
-pub obj_parts : (decimals : ℕ) (lots : List (List ℕ)) (drawn : List Drawn)
-    → codes "# cga_city obj\n" ++ lots_text mesh_drawn decimals drawn 0 lots ≡ obj_text_of lots drawn decimals
-unfolding obj_text_of text_by
-obj_parts decimals lots drawn = refl
-
 module _ (mesh : Shown) (decimals : ℕ) where
+  pub text_parts : (lots : List (List ℕ)) (drawn : List Drawn)
+      → codes "# cga_city obj\n" ++ lots_text mesh decimals drawn 0 lots ≡ text_by mesh lots drawn decimals
+  unfolding text_by
+  text_parts lots drawn = refl
+
   pub lot_parts : (before : ℕ) (lot head : List ℕ) (drawn : List Drawn) → head ≡ codes "o " ++ lot ++ codes "\n"
       → head ++ instances_text mesh decimals before drawn ≡ lot_text mesh decimals before lot drawn
   unfolding lot_text

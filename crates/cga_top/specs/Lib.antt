@@ -7,6 +7,7 @@ pub mod Replies
 pub mod TooMany
 pub mod Output
 pub mod Prints
+pub mod Reported
 pub mod Written
 pub mod Blocks
 pub mod Session

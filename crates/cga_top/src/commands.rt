@@ -7,9 +7,8 @@ ghost use Rattle.cga_top.specs.Ready.{IsReady, HasRead};
 
 use crate::dresses::{dress, undress};
 use crate::edits::{change, redo, undo};
-use crate::models::{model_city, model_lot};
 use crate::open_block::OpenBlock;
-use crate::print_lots::print;
+use crate::report::{model, print};
 use crate::reports::{bill, dump, faults, grammar, stats};
 use crate::session::Session;
 use crate::traces::trace;
@@ -59,8 +58,7 @@ fn do_plain(session: &mut Session, command: &ScriptCommand) -> Result<List<u8>, 
         ScriptCommand::AssetBlock(name) => Ok(open_asset(session, *name)),
         ScriptCommand::JudgeBlock => Ok(open(session, OpenBlock::Judge(JudgeReader::new(alloc)))),
         ScriptCommand::Print(name) => print(session, *name),
-        ScriptCommand::Model(None) => model_city(session),
-        ScriptCommand::Model(Some(lot)) => model_lot(session, *lot),
+        ScriptCommand::Model(name) => model(session, *name),
         ScriptCommand::Faults => faults(session),
         ScriptCommand::Grammar => grammar(session),
         ScriptCommand::Dump => dump(session),

@@ -22,6 +22,7 @@ mod print_lots;
 mod pump;
 mod read_end;
 mod reads;
+mod report;
 mod reports;
 mod script_end;
 mod session;

@@ -1,55 +1,60 @@
-//! What is printed with assets in the place of solids.
-ghost use Rattle.std.specs.Prelude.{◌≡◌, IfOk, None, Some, bytes_eq};
+//! Writes models, lot by lot: what is drawn, with assets in the place of solids.
+ghost use Rattle.std.specs.Prelude.{◌≡◌, ◌<◌, ◌^◌, IfOk, OnErr, OnOk, bytes_eq, length};
 ghost use Rattle.std.specs.List.{IsDistinct};
-ghost use Rattle.cga_asset.specs.Dressed.{model_text_of};
-ghost use Rattle.cga_obj.specs.Lots.{AreSolid, StandsBy};
-ghost use Rattle.cga_top.specs.State.{State};
-ghost use Rattle.cga_top.specs.Replies.{modelled, shown};
-ghost use Rattle.cga_top.specs.Session.{IsAt, Says};
+ghost use Rattle.std.specs.Io.KnownBytes.{Appends};
+ghost use Rattle.cga_asset.specs.Dressed.{dressed_mesh, is_too_large};
+ghost use Rattle.cga_top.specs.Faults.{FaultsBy};
+ghost use Rattle.cga_top.specs.Prefixes.{AppendsSome};
+ghost use Rattle.cga_top.specs.Prints.{in_lots};
 ghost use Rattle.cga_top.specs.Ready.{IsReady};
+ghost use Rattle.cga_top.specs.Replies.{model_of, modelled};
+ghost use Rattle.cga_top.specs.Session.{IsAt};
+ghost use Rattle.cga_top.specs.State.{State};
 
-use crate::reports::names;
+use crate::halt::Halt;
+use crate::print_lots::{write_refusal, write_text};
 use crate::session::Session;
-use cga_asset::{ModelTooLarge, model_text};
-use cga_city::NoLot;
-use cga_fraction::{List, NoMemory};
-use cga_script::{Refused, refusal_text};
-use cga_shape::{Drawn, EditRefused};
+use cga_asset::{ModelSize, ModelTooLarge};
+use cga_fraction::NoMemory;
+use cga_outside::Sink;
+use cga_script::Refused;
 use cga_word::Name;
 
-// What is drawn of these lots, dressed, or that there is too much of it.
-fn model(session: &Session, lots: &[Name], drawn: &[Drawn]) -> Result<List<u8>, NoMemory>
-    requires order { StandsBy lots.now drawn.now }
+// Whether the models of lots are too large together.
+fn is_large(session: &Session, lots: &[Name]) -> Result<bool, NoMemory>
+    requires { IsReady session.now }
+    ensures { IfOk result (λ large. large ≡ is_too_large (dressed_mesh session.now.wardrobe) (in_lots session.now.city lots.now)) }
+{
+    let mut size = ModelSize::zero();
+    for lot in lots {
+        let drawn = session.city.lot_instances(*lot)?;
+        match size.with_drawn(session.alloc, &session.wardrobe, drawn.as_slice())? {
+            Ok(more) => size = more,
+            Err(ModelTooLarge) => return Ok(true),
+        }
+    }
+    Ok(false)
+}
+
+/// Writes the model of lots, or that it is too large. Takes memory for a lot's solids and one mesh, and makes each mesh
+/// twice.
+pub(crate) fn write_model<K: Sink>(
+    session: &Session,
+    out: &mut K,
+    lots: &[Name],
+) -> Result<(), Halt>
+    requires ready { IsReady session.now }
     requires distinct { IsDistinct bytes_eq lots.now }
-    requires solid { AreSolid drawn.now }
-    ensures { (s : State) → IfOk result (Says (modelled s (model_text_of session.now.wardrobe lots.now drawn.now session.now.decimals))) }
+    requires few { length lots.now < 2 ^ 32 }
+    ensures ok { (s : State) → IsAt s session.now
+        → OnOk result (Appends (K.held out.old) (K.held out.new) (modelled s (model_of s lots.now)).reply) }
+    ensures err { (s : State) → IsAt s session.now
+        → OnErr result (AppendsSome (K.held out.old) (K.held out.new) (modelled s (model_of s lots.now)).reply) }
+    ensures faults { FaultsBy result (K.faults out.old) (K.faults out.new) }
 {
-    let decimals = session.decimals.get();
-    match model_text(session.alloc, &session.wardrobe, lots, drawn, decimals)? {
-        Ok(text) => Ok(text),
-        Err(ModelTooLarge) => refusal_text(session.alloc, &Refused::ModelTooLarge),
-    }
-}
-
-/// The model of the city. Takes memory.
-pub(crate) fn model_city(session: &Session) -> Result<List<u8>, NoMemory>
-    requires { IsReady session.now }
-    ensures { (s : State) → IsAt s session.now → IfOk result (Says (shown s None)) }
-{
-    let names = names(session.alloc, session.city.lots())?;
-    match session.city.instances(None)? {
-        Ok(drawn) => model(session, names.as_slice(), drawn.as_slice()),
-        Err(NoLot) => unreachable!(),
-    }
-}
-
-/// The model of one lot, where it is there. Takes memory.
-pub(crate) fn model_lot(session: &Session, lot: Name) -> Result<List<u8>, NoMemory>
-    requires { IsReady session.now }
-    ensures { (s : State) → IsAt s session.now → IfOk result (Says (shown s (Some lot))) }
-{
-    match session.city.instances(Some(lot))? {
-        Ok(drawn) => model(session, &[lot], drawn.as_slice()),
-        Err(NoLot) => refusal_text(session.alloc, &Refused::Edit(EditRefused::NoLot(lot))),
+    match is_large(session, lots) {
+        Ok(true) => write_refusal(session.alloc, out, &Refused::ModelTooLarge),
+        Ok(false) => write_text(session, &session.wardrobe, out, lots),
+        Err(NoMemory) => Err(Halt::NoMemory),
     }
 }

@@ -7,7 +7,8 @@ ghost use Rattle.cga_script.specs.declared.ending.Ending.TheVariants as ending;
 ghost use Rattle.cga_top.specs.State.{State};
 ghost use Rattle.cga_top.specs.Lived.{Begun, IsHere, Lived};
 ghost use Rattle.cga_top.specs.Replied.{Replied};
-ghost use Rattle.cga_top.specs.Replies.{begun, effect, printed};
+ghost use Rattle.cga_top.specs.Replies.{begun, effect};
+ghost use Rattle.cga_top.specs.Reported.{reported};
 ghost use Rattle.cga_top.specs.Session.{IsAt};
 ghost use Rattle.cga_top.specs.Turns.{Talk};
 ghost use Rattle.cga_top.specs.Ready.{IsReady};
@@ -16,10 +17,10 @@ ghost use Rattle.cga_top.specs.Prefixes.{AppendsSome};
 ghost use Rattle.cga_top.specs.Faults.{FaultsBy};
 
 use crate::halt::Halt;
-use crate::print_lots::write_print;
+use crate::report::{Report, write_report};
 use crate::session::Session;
 use crate::talker::Talker;
-use crate::turns::{asks_print, do_line};
+use crate::turns::{asks_report, do_line};
 use cga_expand::Expansions;
 use cga_fraction::{NoMemory, Tests};
 use cga_outside::{Failed, Sink};
@@ -88,22 +89,23 @@ fn reply_as_text<K: Sink, E: Ledger, T: Ledger>(
     }
 }
 
-// Replies to a line that asks to print, lot by lot.
+// Replies to a line that asks for a report, lot by lot.
 fn reply_by_lots<K: Sink>(
     session: &mut Session,
     out: &mut K,
+    report: Report,
     name: Option<Name>,
 ) -> Result<(), Halt>
     requires { IsReady session.old }
-    ensures ok { (s : State) (line : Line) (n : ℕ) → IsAt s session.old → effect s line ≡ printed (begun s) name
+    ensures ok { (s : State) (line : Line) (n : ℕ) → IsAt s session.old → effect s line ≡ reported (begun s) report name
         → OnOk result (Replied (effect s line) session.old.city.changes session.new (K.held out.old) (K.held out.new) n n) }
-    ensures err { (s : State) (line : Line) (told : Talk) → IsHere s session.old → effect s line ≡ printed (begun s) name
+    ensures err { (s : State) (line : Line) (told : Talk) → IsHere s session.old → effect s line ≡ reported (begun s) report name
         → OnErr result (Begun told s (line ∷ []) (K.held out.old) (K.held out.new)) }
     ensures faults { FaultsBy result (K.faults out.old) (K.faults out.new) }
     ensures ready { OnOk result (IsReady session.new) }
 {
     session.fresh = false;
-    match write_print(session, out, name) {
+    match write_report(session, out, report, name) {
         Ok(()) => Ok(()),
         Err(halt) => Err(halt),
     }
@@ -126,8 +128,8 @@ fn reply_line<K: Sink, E: Ledger, T: Ledger>(
     ensures faults { FaultsBy result (K.faults out.old) (K.faults out.new) }
     ensures ready { OnOk result (IsReady session.new) }
 {
-    match asks_print(session, lines.line(), lines.is_long()) {
-        Ok(Some(name)) => reply_by_lots(session, out, name),
+    match asks_report(session, lines.line(), lines.is_long()) {
+        Ok(Some((report, name))) => reply_by_lots(session, out, report, name),
         Ok(None) => reply_as_text(session, lines, out, expansions, tests),
         Err(NoMemory) => Err(Halt::NoMemory),
     }

@@ -1,8 +1,8 @@
 ghost use Rattle.std.specs.Prelude.{◌≡◌, ◌&&◌, IfOk, IfSome, Ok, OnOk, ℕ};
 ghost use Rattle.cga_script.specs.Ends.{is_version_line};
-ghost use Rattle.cga_script.specs.declared.script_command.ScriptCommand.TheVariants.{Print};
 ghost use Rattle.cga_top.specs.State.{State, Block};
-ghost use Rattle.cga_top.specs.Replies.{effect, outside, asked, begun, is_blank, closed, ended, printed, second};
+ghost use Rattle.cga_top.specs.Replies.{effect, outside, asked, begun, is_blank, closed, ended, second};
+ghost use Rattle.cga_top.specs.Reported.{asks_for, reported};
 ghost use Rattle.cga_top.specs.Session.{IsAt, IsOpenAs, Did};
 ghost use Rattle.cga_top.specs.Ready.{IsReady, HasRead};
 ghost use Rattle.cga_top.specs.Written.{IsWritten, AsksWritten};
@@ -11,6 +11,7 @@ use crate::commands::do_command;
 use crate::dresses::keep_asset;
 use crate::edits::change;
 use crate::open_block::{OpenBlock, city_edit, rules_edit};
+use crate::report::Report;
 use crate::session::{Session, accepted, put};
 use crate::traces::judge_lines;
 use cga_asset::Wardrobe;
@@ -91,33 +92,39 @@ fn do_asked<E: Ledger, T: Ledger>(
     }
 }
 
-// What a command prints, where that is what it asks for.
-fn printed_by(told: &Result<ScriptCommand, LineFault>) -> Option<Option<Name>>
-    ensures { IfSome result (λ name. told.now ≡ Ok (Print name)) }
+// What a command asks to be shown, if that is what it asks for.
+fn report_asked(told: &Result<ScriptCommand, LineFault>) -> Option<(Report, Option<Name>)>
+    ensures { IfSome result (λ asked. told.now ≡ Ok (asks_for asked.0 asked.1)) }
 {
     match told {
-        Ok(ScriptCommand::Print(name)) => Some(*name),
+        Ok(ScriptCommand::Print(name)) => Some((Report::Print, *name)),
+        Ok(ScriptCommand::Model(name)) => Some((Report::Model, *name)),
         _ => None,
     }
 }
 
-/// What a line asks to print, where it stands outside a block and begins with that word: the city, or one lot.
-pub(crate) fn asks_print(
+// A line that asks for a report begins with its word.
+fn begins_report(line: &[u8]) -> bool {
+    line.starts_with(b"print") || line.starts_with(b"model")
+}
+
+/// What a line asks to be shown, if the line is outside a block and begins with such a word: of the city, or of one lot.
+pub(crate) fn asks_report(
     session: &Session,
     line: &[u8],
     long: bool,
-) -> Result<Option<Option<Name>>, NoMemory>
-    ensures { (s : State) → IsAt s session.now → IfOk result (λ asked. IfSome asked (λ name.
-        effect s (record { bytes = line.now; long = long }) ≡ printed (begun s) name)) }
+) -> Result<Option<(Report, Option<Name>)>, NoMemory>
+    ensures { (s : State) → IsAt s session.now → IfOk result (λ asked. IfSome asked (λ a.
+        effect s (record { bytes = line.now; long = long }) ≡ reported (begun s) a.0 a.1)) }
 {
-    if session.block.is_some() || !line.starts_with(b"print") {
+    if session.block.is_some() || !begins_report(line) {
         return Ok(None);
     }
     if is_second(session, line, long)? {
         return Ok(None);
     }
     let told = command(session.alloc, line, long, session.version)?;
-    Ok(printed_by(&told))
+    Ok(report_asked(&told))
 }
 
 // Does what a line outside a block asks for.

@@ -1,6 +1,6 @@
 use Rattle.std.proofs.Common.{◌≡◌, ◌≤◌, ◌*◌, List, ℕ, length, take}
 use Rattle.std.specs.Prelude.{sum_by}
-use Rattle.cga_asset.proofs.dressed.entries.Given as goal
+use Rattle.cga_asset.proofs.model_size.entries.Given as goal
 
 abbrev pub invariant-loop-face : goal.invariant-loop-face
 invariant-loop-face l = record {

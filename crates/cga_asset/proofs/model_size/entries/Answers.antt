@@ -1,6 +1,6 @@
 use Rattle.std.proofs.Common.{ℕ, List, length, sym, arith}
 use Rattle.cga_asset.proofs.Large.{next_sum}
-use Rattle.cga_asset.proofs.dressed.entries.Goals as goal
+use Rattle.cga_asset.proofs.model_size.entries.Goals as goal
 
 pub loop-face-preserved : goal.loop-face-preserved
 loop-face-preserved c = record {
