@@ -12,5 +12,7 @@ pub use Rattle.cga_index.proofs.LastingTree.{in_lasting, in_whole, lasting_laws}
 pub use Rattle.cga_index.proofs.Askers.{all_once, apart_flat, apart_join, caller_in}
 -- Members of a list by their places
 pub use Rattle.cga_index.proofs.NearAskers.{member_at}
+-- Who meets what lies inside a box meets the box
+pub use Rattle.cga_index.proofs.Widening.{wide_meets}
 -- Answers of lists that are joined
 pub use Rattle.cga_index.proofs.Over.{graded_or}

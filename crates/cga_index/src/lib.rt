@@ -25,6 +25,7 @@ mod visitor;
 mod visits;
 mod walk;
 
+pub use around::box_around;
 pub use hull_tree::HullTree;
 pub use lasting::Lasting;
 pub use lasting_askers::LastingAskers;

@@ -46,6 +46,7 @@ module _ (was : Work) (rest : AgendaView) (edit : TheEdit) (s : TheState) (means
     all_queued = λ is b c x d there on here asks solid less. same.there c (means.all_queued is b c x d there (same.back b on) here asks solid less);
     priced = means.priced;
     last = means.last;
+    clear = means.clear;
     silent = means.silent;
     plain = means.plain;
     gone = means.gone;

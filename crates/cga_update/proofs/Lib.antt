@@ -28,6 +28,7 @@ mod Losing
 mod Adding
 mod Rooting
 mod NearMoved
+mod Clearing
 mod Nearby
 mod Changing
 mod Drawing

@@ -17,8 +17,8 @@ use Rattle.cga_update.specs.Askers.{IsAsker, IsLasting, ListsAskers, boxes_of}
 use Rattle.cga_update.proofs.Members.{among_member, member_among}
 use Rattle.cga_order.proofs.Door.{Among-left as among_left, Among-right as among_right}
 
-near_some : (own : Box) (moved : List NodeChange) (m : NodeChange) → Among m moved → meets own (box_of m.scope) ≡ true
-    → list_any (meets own) (boxes_of moved) ≡ true
+pub near_some : (own : Box) (moved : List NodeChange) (m : NodeChange) → Among m moved
+    → meets own (box_of m.scope) ≡ true → list_any (meets own) (boxes_of moved) ≡ true
 near_some own [] m h e = absurd h
 near_some own (x ∷ xs) m (inl s) e =
     or_left (meets own (box_of x.scope)) (list_any (meets own) (boxes_of xs)) (ap (λ (k : NodeChange). meets own (box_of k.scope)) s ∙ e)

@@ -123,6 +123,7 @@ module _ (was now : Work) (rest : AgendaView) (id : ℕ) (x : Chain) (edit : The
           (record { here = here; one = asks; solid = solid; less = (stamp_total new.mode).trans (chain_kept e.node) (chain_kept y.node) (chain_kept d.node) (taken.1.left b y there on).2 less });
       priced = means.priced;
       last = means.last;
+      clear = means.clear;
       silent = means.silent;
       plain = means.plain;
       gone = means.gone;

@@ -33,6 +33,7 @@ use Rattle.cga_update.specs.declared.work.Work.{Work}
 use Rattle.cga_queue.specs.Agenda.{AgendaView, IsLeast}
 use Rattle.cga_queue.specs.Remembered.{AreOn, IsRemembered, RememberedView}
 use Rattle.cga_depend.specs.Both.{both}
+use Rattle.cga_update.specs.Clear.{IsClear}
 use Rattle.cga_update.specs.Due.{AskersAreDue, AsksStill, ComersAreDue, HasCome}
 use Rattle.cga_update.specs.Edit.{asks_by, content, kept_nodes, meets_box, ranked, rules_of, shapes_of, the_edit}
 use Rattle.cga_check.specs.Uses.{same_name}
@@ -49,6 +50,7 @@ use Rattle.cga_update.proofs.DueNodes.{may_be_on}
 use Rattle.cga_update.proofs.Children.{are_news, is_fit, is_outcome, keeps_self}
 use Rattle.cga_update.proofs.Facts.{said_asks}
 use Rattle.cga_update.proofs.Edits.{by_symbol, is_rules_edit}
+use Rattle.cga_update.proofs.Clearing.{turn_clear}
 use Rattle.cga_update.proofs.Idle.{TheEdit, TheState}
 use Rattle.cga_update.proofs.Lasting.{turn_up_to}
 use Rattle.cga_update.proofs.Moved.{comer_on, is_moved, later_in, later_on, stays_on, still_due}
@@ -116,14 +118,17 @@ module _ (was now : Work) (rest : AgendaView) (id : ℕ) (x : Chain) (turned : T
       let on = remembered_rest (chains_of was.forest) was.remembered less was.agenda rest id x least means.remembered forgot c left.0 in
       stays_on was.forest now.forest new id news e after_e gone replaced inner still refl rest turn.placed.0.removed turn.placed.1.removed c left.1 on
 
+  marks_stay : (c : ℕ) → marked_at now.forest c ≡ marked_at was.forest c
+  marks_stay = turn.placed.1.bounds.mark.1 means.marked
+
+  clear_now : IsClear now.forest now.clear
+  clear_now = turn_clear was.forest now.forest id gone replaced.rest marks_stay turn.placed.1.unmarked was.clear now.clear turn.placed.1.clear means.clear
+
   followed : IsFollowed now.forest id turn.placed.0 turn.placed.1.nobody rest now.agenda
-  followed = turn.placed.1.followed are_on
+  followed = turn.placed.1.followed are_on clear_now
 
   abbrev IsAfter : Seen → Type 0
   IsAfter d = stamp_cmp new.mode (chain_kept e.node) (chain_kept d.node) ≡ Less
-
-  marks_stay : (c : ℕ) → marked_at now.forest c ≡ marked_at was.forest c
-  marks_stay = turn.placed.1.bounds.mark.1 means.marked
 
   comers : (c : ℕ) (d : Seen) → V c ≡ Some d → marked_at now.forest c ≡ None → is_instance d.node.kind ≡ false
       → IsAfter d → on_of was.forest rest c ≡ true
@@ -336,6 +341,7 @@ module _ (was now : Work) (rest : AgendaView) (id : ℕ) (x : Chain) (turned : T
         (still_priced was.forest now.forest before g id turn.outcome e after_e gone replaced refl turn.here refl
         refl inner (means.priced (sym turn.placed.1.bounds.priced ∙ is)));
     last = to_new (λ b. AskersAreUpTo b.now.mode now.last b.now.grammar now.forest) (subst (λ l. AskersAreUpTo new.mode l g now.forest) (sym turn.placed.1.bounds.last) up_to);
+    clear = clear_now;
     silent = still_silent was.forest now.forest before g id turn.outcome e after_e gone replaced refl means.silent;
     plain = still_plain was.forest now.forest before g id turn.outcome e after_e gone replaced refl means.plain;
     gone = turn.placed.1.gone ∙ (λ i. means.gone i ++ sym removed.2 i) ∙ sym (map_both told_ranked s.gone removed.0);

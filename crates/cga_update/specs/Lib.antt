@@ -5,6 +5,7 @@ pub mod Updates
 pub mod Anew
 pub mod Laws
 pub mod Queue
+pub mod Clear
 pub mod Due
 pub mod Follow
 pub mod Log

@@ -20,6 +20,7 @@ use Rattle.cga_forest.specs.Tree.{ForestView, KeepsMark, marked_at, node_at}
 use Rattle.cga_update.specs.declared.work.Work.{Work}
 use Rattle.cga_queue.specs.Remembered.{AreOn}
 use Rattle.cga_depend.specs.Both.{both}
+use Rattle.cga_update.specs.Clear.{IsClear}
 use Rattle.cga_update.specs.Due.{AskersAreDue, ComersAreDue}
 use Rattle.cga_update.specs.Edit.{asks_by, content, kept_nodes, rules_of, shapes_of, the_edit}
 use Rattle.cga_update.specs.Last.{AskersAreUpTo}
@@ -52,6 +53,7 @@ pub record Means (w : Work) (edit : Edit (Ranked Shape) Answers Setting ShapeFau
   pub all_queued : w.all_queued ≡ true → AskersAreDue w.renewal.new.now.mode w.forest w.agenda
   pub priced : w.priced ≡ true → ArePriced w.renewal.new.now.grammar w.forest
   pub last : AskersAreUpTo w.renewal.new.now.mode w.last w.renewal.new.now.grammar w.forest
+  pub clear : IsClear w.forest w.clear
   -- an instance doesn't ask
   pub silent : (c : ℕ) (d : Seen) → node_at w.forest c ≡ Some d → is_instance d.node.kind ≡ true → d.node.asks ≡ false
   pub plain : (c : ℕ) (d : Seen) → node_at w.forest c ≡ Some d → IsPlain d

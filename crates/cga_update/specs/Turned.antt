@@ -2,6 +2,7 @@
 use Rattle.std.specs.Prelude.{◌≡◌, ◌⊎◌, ℕ, List, ◌++◌, length, Option, None, Some, IsSome, Bool, true, false, slice_get}
 use Rattle.cga_word.specs.declared.answers.Answers.{Answers}
 use Rattle.cga_word.specs.declared.primitive.Primitive.{Primitive}
+use Rattle.cga_frame.specs.Box.{Box}
 use Rattle.cga_order.specs.World.{is_waiting}
 use Rattle.cga_order.specs.declared.placed.Kind.{Kind}
 use Rattle.cga_order.specs.declared.placed.Kind.TheVariants.{Waiting, Done, Faulted, Instance}
@@ -24,6 +25,7 @@ use Rattle.cga_forest.specs.Tree.{ForestView, IsForest, Replaces, marked_at, nod
 use Rattle.cga_update.specs.declared.work.Work.{Work}
 use Rattle.cga_depend.specs.Both.{both}
 use Rattle.cga_update.specs.Edit.{asks_by, kept_nodes, ranked, the_edit}
+use Rattle.cga_update.specs.Clear.{IsClear, StaysClear}
 use Rattle.cga_update.specs.Follow.{HasLaters, IsFollowed}
 use Rattle.cga_queue.specs.Last.{IsPast}
 use Rattle.cga_queue.specs.Remembered.{AreOn, IsRemembered, RememberedView}
@@ -52,7 +54,8 @@ pub record IsPlaced (was now : Work) (id : ℕ) (answers : Answers) (outcome : O
   -- what is remembered of the agenda, less what went
   pub less : RememberedView
   pub forgot : (c : ℕ) → IsRemembered less c → IsRemembered was.remembered c × (IsOneOf change.removed c → ⊥)
-  pub followed : AreOn (chains_of now.forest) less was.agenda
+  pub clear : (area : Box) → now.clear ≡ Some area → StaysClear now.forest id was.clear area
+  pub followed : AreOn (chains_of now.forest) less was.agenda → IsClear now.forest now.clear
       → IsFollowed now.forest id change nobody was.agenda now.agenda
   pub remembered : AreOn (chains_of now.forest) less was.agenda → AreOn (chains_of now.forest) now.remembered now.agenda
   pub all_queued : AreOn (chains_of now.forest) less was.agenda → now.all_queued ≡ true

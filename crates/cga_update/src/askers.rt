@@ -37,7 +37,7 @@ pub fn askers_near<T: Ledger>(
 }
 
 /// Appends their boxes. Takes memory.
-fn add_boxes(moved: &[NodeChange], boxes: &mut Vec<WorldBox>) -> Result<(), NoMemory>
+pub fn add_boxes(moved: &[NodeChange], boxes: &mut Vec<WorldBox>) -> Result<(), NoMemory>
     ensures { OnOk result (boxes.new.items ≡ boxes.old.items ++ boxes_of moved.now) }
 {
     for node in moved {

@@ -1,11 +1,13 @@
 //! The beginning of an update: the roots that go and come, and the first agenda.
-ghost use Rattle.std.specs.Prelude.{◌≡◌, ℕ, IfOk, OnOk};
+ghost use Rattle.std.specs.Prelude.{◌≡◌, ◌++◌, ℕ, true, IfOk, OnOk};
 ghost use Rattle.cga_forest.specs.Tree.{marked_at, node_at};
 ghost use Rattle.cga_queue.specs.Agenda.{OneEach};
+ghost use Rattle.cga_update.specs.Clear.{AsksNobody};
 ghost use Rattle.cga_update.specs.Queue.{chains_of};
 ghost use Rattle.cga_update.specs.Begun.{HasBegun, HasMoved, IsBetween, IsFresh, StandsMarked};
 
 use crate::asking::last_asker;
+use crate::clear::clear_area;
 use crate::log::{note_created, note_removed};
 use crate::queue::{add_moved, queue_changed, queue_near};
 use crate::renewal::Renewal;
@@ -26,13 +28,18 @@ fn queue_rooted<T: Ledger>(
     forest: &Forest,
     removed: &[NodeChange],
     created: &[NodeChange],
+    nobody: bool,
     tests: &mut Tests<T>,
 ) -> Result<(), NoMemory>
     requires one { OneEach (chains_of forest.now) }
+    requires nobody { nobody ≡ true → AsksNobody forest.now (removed.now ++ created.now) }
     ensures moved { OnOk result (HasMoved forest.now removed.now created.now agenda.new) }
     ensures mode { OnOk result (agenda.new.mode ≡ agenda.old.mode) }
 {
     add_moved(agenda, forest, created)?;
+    if nobody {
+        return Ok(());
+    }
     queue_near(agenda, forest, removed, &[], tests)?;
     queue_near(agenda, forest, &[], created, tests)
 }
@@ -70,13 +77,23 @@ fn begin<T: Ledger>(
     note_removed(removed_nodes, &mut work.log, &mut work.gone)?;
     note_created(created_nodes, &mut work.log, &mut work.come)?;
     work.forest.laws(); // for the proof
+    let clear = clear_area(
+        alloc,
+        &work.forest,
+        renewal.changed,
+        removed_nodes,
+        created_nodes,
+        tests,
+    )?;
     queue_rooted(
         &mut work.agenda,
         &work.forest,
         removed_nodes,
         created_nodes,
+        clear.is_some(),
         tests,
     )?;
+    work.clear = clear;
     let priced = queue_changed(
         &mut work.agenda,
         &work.forest,
@@ -120,6 +137,7 @@ pub fn begun<'a, T: Ledger>(
         looked: 0,
         priced: false,
         last: Last::Unknown,
+        clear: None,
         symbols: Symbols::new(alloc, &renewal.new.grammar),
         grammars: Grammars::new(alloc, &renewal.old.grammar, &renewal.new.grammar),
         log: Vec::new(alloc),

@@ -15,6 +15,7 @@ mod askers;
 mod asking;
 mod begin;
 mod changed_lots;
+mod clear;
 mod end;
 mod follow;
 mod kept;

@@ -16,6 +16,7 @@ ghost use Rattle.cga_update.specs.Turned.{HasNobodyLeft, HasPlaced, IsAgain, IsT
 
 use crate::again::outcome_again;
 use crate::asked::asked;
+use crate::clear::{needs_nobody, still_clear};
 use crate::follow::{follow, forget_all, queue_rest};
 use crate::log::{note_created, note_removed};
 use crate::work::Work;
@@ -69,6 +70,8 @@ fn place<T: Ledger>(
     note_removed(change.removed.as_slice(), &mut work.log, &mut work.gone)?;
     note_created(change.created.as_slice(), &mut work.log, &mut work.come)?;
     forget_all(&mut work.remembered, change.removed.as_slice());
+    work.clear = still_clear(&work.forest, id, work.clear);
+    let nobody = needs_nobody(nobody, &work.clear, &change);
     follow(
         &mut work.agenda,
         &mut work.remembered,

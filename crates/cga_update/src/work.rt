@@ -3,6 +3,7 @@ use cga_check::Symbols;
 use cga_depend::{Grammars, Pairing};
 use cga_expand::RulesByPlace;
 use cga_forest::Forest;
+use cga_frame::WorldBox;
 use cga_queue::{Agenda, Last, Remembered};
 use cga_shape::Drawn;
 use std::alloc::Global;
@@ -24,6 +25,8 @@ pub struct Work<'a> {
     pub(crate) priced: bool,
     /// When the last node of the mark is looked at that asks: then nobody has to be looked for behind it.
     pub(crate) last: Last,
+    /// A box that nobody of the mark meets who asks.
+    pub(crate) clear: Option<WorldBox>,
     /// The new grammar, with what was read of it.
     pub(crate) symbols: Symbols<'a>,
     pub(crate) grammars: Grammars<'a>,

@@ -38,7 +38,10 @@ add_roots-requires g c = record {
 }
 
 pub queue_rooted-requires : goal.queue_rooted-requires
-queue_rooted-requires g c = record { one = one_each c.add_roots.new.forest c.laws-2.ensures }
+queue_rooted-requires g c = record {
+  one = one_each c.add_roots.new.forest c.laws-2.ensures;
+  nobody = λ is. c.in_ok-clear.ensures.nobody (sym c.is_some.ensures ∙ is);
+}
 
 pub queue_changed-requires : goal.queue_changed-requires
 queue_changed-requires g c = record { one = one_each c.add_roots.new.forest c.laws-2.ensures }
@@ -105,6 +108,7 @@ returns-clause-begun g c =
         priced = λ is. proof.priced_now start (subst (λ (g : BothGrammars). KeepsPriorities g.before g.after d) grammars (c.in_ok-priced.ensures.priced is));
         last = subst (λ mode. AskersAreUpTo mode c.in_ok-last.last new.grammar v) (c.in_ok-priced.ensures.grows.mode ∙ c.in_ok-queue_rooted.ensures.mode ∙ c.requires.fresh.mode)
             (first_up_to start a.mode c.in_ok-last.last (subst (λ (g : Grammar). IsTold a.mode v d old.grammar g c.in_ok-last.last) known c.in_ok-last.ensures.told));
+        clear = c.in_ok-clear.ensures.clear;
         silent = proof.silent_now start;
         plain = proof.plain_now start;
         gone = drawn_from c.note_removed.new.gone.items c.args.work.now.gone.items c.as_slice-removed_nodes.result.now removed c.in_ok-note_removed.ensures.gone c.requires.fresh.gone c.as_slice-removed_nodes.ensures.value ∙ sym lost_list.2;

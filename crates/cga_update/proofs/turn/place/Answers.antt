@@ -6,6 +6,7 @@ use Rattle.cga_update.specs.Askers.{IsOneOf}
 use Rattle.cga_update.specs.Follow.{IsRested}
 use Rattle.cga_update.specs.Log.{created_of, drawn_of, removed_of}
 use Rattle.cga_update.proofs.DueNodes.{one_each}
+use Rattle.cga_update.proofs.Clearing.{followed_clear}
 use Rattle.cga_update.proofs.Following.{followed_more, laters_of}
 use Rattle.cga_update.proofs.turn.place.Goals as goal
 
@@ -26,6 +27,8 @@ returns-clause-placed g c =
     let change = c.in_ok-change.change in
     let id = c.args.id in
     let nobody = c.has_nobody_left-nobody.result in
+    let both = c.needs_nobody-nobody.result in
+    let needs = c.needs_nobody-nobody.ensures in
     let next = c.follow.new.agenda in
     let last = c.queue_rest.new.agenda in
     on_ok c.queue_rest.result
@@ -40,9 +43,11 @@ returns-clause-placed g c =
         nobody_left = c.has_nobody_left-nobody.ensures;
         less = less;
         forgot = subst (λ (moved : List NodeChange). (k : ℕ) → IsRemembered less k → IsRemembered was.remembered k × (IsOneOf moved k → ⊥)) c.as_slice-3.ensures c.forget_all.ensures;
-        followed = λ are. followed_more v id change nobody was.agenda next last (follow.followed are) rest.grows;
+        clear = c.still_clear-work.ensures;
+        followed = λ are clear. followed_clear v id change nobody both c.still_clear-work.result was.agenda last needs clear
+            (followed_more v id change both was.agenda next last (follow.followed are) rest.grows);
         remembered = λ are. rest.remembered (follow.remembered are);
-        all_queued = λ are is. laters_of v id change nobody was.agenda next last was.all_queued (follow.followed are) (rest.all (follow.remembered are) is);
+        all_queued = λ are is. laters_of v id change both was.agenda next last was.all_queued (follow.followed are) (rest.all (follow.remembered are) is);
         log = after.log ∙ (λ i. before.log i ++ created_of c.as_slice-2.result.now) ∙ (λ i. (was.log.items ++ removed_of (removed i)) ++ created_of (created i));
         gone = before.gone ∙ (λ i. was.gone.items ++ drawn_of (removed i));
         come = after.come ∙ (λ i. was.come.items ++ drawn_of (created i));
